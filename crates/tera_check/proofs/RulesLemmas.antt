@@ -102,7 +102,7 @@ in_part (ExpressionPart e) = in_expression e
 -- ---- a part is taken
 
 -- what is to come is the last part, and then what is to come where those in it are in its place
-last_part : (old : List PartVal) (p : PartVal) → all_parts (old ++ p ∷ []) ≡ p ∷ all_parts (old ++ children p)
+pub last_part : (old : List PartVal) (p : PartVal) → all_parts (old ++ p ∷ []) ≡ p ∷ all_parts (old ++ children p)
 last_part old p =
     turned old (p ∷ [])
     ∙ ap (λ ps. p ∷ ps) (ap (λ ps. ps ++ all_parts old) (sym (in_part p)) ∙ sym (turned old (children p)))

@@ -40,17 +40,26 @@ kind_name kinds.RepeatedArgument = codes "repeated-argument"
 kind_name kinds.UnusedParameter = codes "unused-parameter"
 kind_name kinds.DefinedAgain = codes "defined-again"
 kind_name kinds.RepeatedKey = codes "repeated-key"
+kind_name kinds.MissingTemplate = codes "missing-template"
+kind_name kinds.CircularExtends = codes "circular-extends"
+kind_name kinds.CircularInclude = codes "circular-include"
+kind_name kinds.UndefinedBlock = codes "undefined-block"
+kind_name kinds.SuperWithoutParent = codes "super-without-parent"
 
 -- all kinds
 abbrev pub all_kinds : List Kind
 all_kinds =
-    kinds.Fault ∷ kinds.UndefinedComponent ∷ kinds.MissingArgument ∷ kinds.UnknownArgument ∷ kinds.WrongType ∷ kinds.RepeatedArgument ∷ kinds.UnusedParameter ∷ kinds.DefinedAgain ∷ kinds.RepeatedKey ∷ []
+    kinds.Fault ∷ kinds.UndefinedComponent ∷ kinds.MissingArgument ∷ kinds.UnknownArgument ∷ kinds.WrongType ∷ kinds.RepeatedArgument ∷ kinds.UnusedParameter ∷ kinds.DefinedAgain ∷ kinds.RepeatedKey
+    ∷ kinds.MissingTemplate ∷ kinds.CircularExtends ∷ kinds.CircularInclude ∷ kinds.UndefinedBlock ∷ kinds.SuperWithoutParent ∷ []
 
 -- how grave a kind is: what a call, a body or a map does not use is a warning, all else an error
 abbrev pub severity_of : Kind → Severity
 severity_of kinds.RepeatedArgument = severities.Warning
 severity_of kinds.UnusedParameter = severities.Warning
 severity_of kinds.RepeatedKey = severities.Warning
+severity_of kinds.CircularInclude = severities.Warning
+severity_of kinds.UndefinedBlock = severities.Warning
+severity_of kinds.SuperWithoutParent = severities.Warning
 severity_of _ = severities.Error
 
 -- the word for that

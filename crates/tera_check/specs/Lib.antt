@@ -15,6 +15,7 @@ pub mod Pending
 pub mod Passed
 pub mod OrderAndStatus
 pub mod Parameters
+pub mod Parents
 pub mod Repeated
 pub mod RepeatedKeys
 pub mod Rules

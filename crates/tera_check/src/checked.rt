@@ -131,7 +131,8 @@ fn findings_of_tree(
     Ok(findings)
 }
 
-fn put_in_order(findings: &mut Vec<Finding>) -> Result<(), AllocError>
+/// Puts the findings in the order of their places.
+pub fn put_in_order(findings: &mut Vec<Finding>) -> Result<(), AllocError>
     ensures ordered { OnOk result (IsInOrder findings.new.items) }
     ensures same { IsPermutation findings.old.items findings.new.items }
 {

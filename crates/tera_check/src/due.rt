@@ -15,7 +15,7 @@ use std::collections::BTreeSet;
 use tera_parser::value::Span;
 
 /// Adds those of the findings that are due. `is_open` says that a text may define more components than are known.
-pub(crate) fn push_due(
+pub fn push_due(
     findings: &mut Vec<Finding>,
     is_open: bool,
     template: &Template,

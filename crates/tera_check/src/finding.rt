@@ -34,10 +34,20 @@ pub enum Kind {
     DefinedAgain,
     /// A value whose key is given again in the same map, so that it does not count.
     RepeatedKey,
+    /// A name that a template extends or includes, and that no template has.
+    MissingTemplate,
+    /// A template that is reached again by what it extends.
+    CircularExtends,
+    /// An include from which its template is reached again.
+    CircularInclude,
+    /// A block at the top of a template, that no template has that it extends.
+    UndefinedBlock,
+    /// A `super()` in a block that no template has that this one extends, or in none.
+    SuperWithoutParent,
 }
 
 /// All kinds of findings.
-pub const KINDS: [Kind; 9] = [
+pub const KINDS: [Kind; 14] = [
     Kind::Fault,
     Kind::UndefinedComponent,
     Kind::MissingArgument,
@@ -47,6 +57,11 @@ pub const KINDS: [Kind; 9] = [
     Kind::UnusedParameter,
     Kind::DefinedAgain,
     Kind::RepeatedKey,
+    Kind::MissingTemplate,
+    Kind::CircularExtends,
+    Kind::CircularInclude,
+    Kind::UndefinedBlock,
+    Kind::SuperWithoutParent,
 ];
 
 /// How grave a finding is.
@@ -125,6 +140,11 @@ impl Kind {
             Kind::UnusedParameter => "unused-parameter",
             Kind::DefinedAgain => "defined-again",
             Kind::RepeatedKey => "repeated-key",
+            Kind::MissingTemplate => "missing-template",
+            Kind::CircularExtends => "circular-extends",
+            Kind::CircularInclude => "circular-include",
+            Kind::UndefinedBlock => "undefined-block",
+            Kind::SuperWithoutParent => "super-without-parent",
         }
     }
 
@@ -138,10 +158,15 @@ impl Kind {
             | Kind::MissingArgument
             | Kind::UnknownArgument
             | Kind::WrongType
-            | Kind::DefinedAgain => Severity::Error,
-            Kind::RepeatedArgument | Kind::UnusedParameter | Kind::RepeatedKey => {
-                Severity::Warning
-            }
+            | Kind::DefinedAgain
+            | Kind::MissingTemplate
+            | Kind::CircularExtends => Severity::Error,
+            Kind::RepeatedArgument
+            | Kind::UnusedParameter
+            | Kind::RepeatedKey
+            | Kind::CircularInclude
+            | Kind::UndefinedBlock
+            | Kind::SuperWithoutParent => Severity::Warning,
         }
     }
 

@@ -5,7 +5,8 @@
 //! on `tera_parser`, and its code names nothing below it; of the kit it uses `json`.
 //!
 //! In the order of reading: specs `Findings`, `Calls`, `Passed`, `Repeated`, `Judged`, `Parameters`, `Within`, `Rules`,
-//! `Named`, `OrderAndStatus`, `Objects`, `Faults`, `Alike`; `templates`, which reads, and `spans`; `mended`, what a
+//! `Named`, `OrderAndStatus`, `Objects`, `Faults`, `Alike`; `templates`, which reads, `spans`, and `parents` (specs
+//! `Parents`); `mended`, what a
 //! source with faults is read as (specs `Mended`), and `lost`, its words (specs `Lost`); `catalogue`; `calls`, over the
 //! parts of a tree (specs `Pending`); `repeated`, `passed`, `arguments` and `judged`, of one call; `parameters`, of one
 //! component (specs `Scopes`); `rules`, of each part by itself, with `repeated_keys` (specs `RepeatedKeys`); `due`,
@@ -32,6 +33,7 @@ mod mended;
 mod messages;
 mod objects;
 mod parameters;
+mod parents;
 mod passed;
 mod repeated;
 mod repeated_keys;
@@ -43,7 +45,8 @@ mod walk;
 
 pub use calls::calls_of;
 pub use catalogue::{Catalogue, Known, catalogue_of, known_at};
-pub use checked::{faults_of, findings_of, status};
+pub use checked::{faults_of, findings_of, put_in_order, status};
+pub use due::push_due;
 pub use faults::finding_of_fault;
 pub use finding::{Finding, KINDS, Kind, Note, Place, Severity};
 pub use found::{Found, all_found};

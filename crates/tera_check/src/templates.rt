@@ -17,8 +17,10 @@ ghost use Rattle.tera_check.specs.Faults.{IsSyntaxError, is_memory};
 ghost use Rattle.tera_check.specs.Mended.{IsMended, text_of};
 ghost use Rattle.tera_check.specs.Named.{definitions_of, tree_of};
 ghost use Rattle.tera_check.specs.Lost.{is_open};
+ghost use Rattle.tera_check.specs.Parents.{IsParentAt};
 
 use crate::mended::{Mended, read_mended};
+use crate::parents::parent_at;
 use crate::spans::spans_of;
 use std::alloc::{AllocError, Global};
 use std::collections::BTreeMap;
@@ -40,6 +42,8 @@ pub struct Template {
     pub defined_at: Vec<Span>,
     /// Where the parameters of each component are, by the name of the component and their own.
     pub parameters_at: BTreeMap<String, BTreeMap<String, Span>>,
+    /// Where the name is of the template that it extends: the string.
+    pub parent_at: Option<Span>,
 }
 
 /// Reads the template in the file of this name. At most so many of its faults are reported; with 0 only the first is
@@ -68,6 +72,8 @@ pub fn read_template(
         × DerivesNames usual default_marks (text_of source.now t) (output_view o) names
         × (t.defined_at.items ≡ map (λ n. n.span) names.components)
         × (grouped_of t.parameters_at ≡ group_all names.parameters nothing_grouped))) }
+    ensures parent { IfOk result (λ t. MatchOption (tree_of t) (t.parent_at ≡ None)
+        (λ o. IsParentAt (text_of source.now t) (output_view o).parent t.parent_at)) }
 {
     let Template {
         file: name,
@@ -77,19 +83,23 @@ pub fn read_template(
         ..
     } = read_template_between(alloc, file, source, Delimiters::default())?;
     match parsed {
-        Ok(output) => Ok(Template {
-            file: name,
-            parsed: Ok(output),
-            mended: None,
-            defined_at,
-            parameters_at,
-        }),
+        Ok(output) => {
+            let parent_at = parent_if_any(alloc, &output, source)?;
+            Ok(Template {
+                file: name,
+                parsed: Ok(output),
+                mended: None,
+                defined_at,
+                parameters_at,
+                parent_at,
+            })
+        }
         Err(error) => with_fault(alloc, name, source, error, faults),
     }
 }
 
 /// Reads the template in the file of this name between other markers. Of its faults only the first is known, and then
-/// there is no tree of what is right in it.
+/// there is no tree of what is right in it. It is not known where the name is of a template that it extends.
 pub fn read_template_between(
     alloc: Global,
     file: &str,
@@ -108,6 +118,7 @@ pub fn read_template_between(
         (LosesSource usual (marks_of markers) source.now)) }
     ensures notes { IfOk result (λ t. IfErr t.parsed (NotesName file.now)) }
     ensures alone { IfOk result (λ t. t.mended ≡ None) }
+    ensures parent { IfOk result (λ t. t.parent_at ≡ None) }
     ensures places { IfOk result (λ t. MatchOption (tree_of t)
         ((t.defined_at.items ≡ []) × (grouped_of t.parameters_at ≡ nothing_grouped))
         (λ o. (names : Places)
@@ -125,6 +136,7 @@ pub fn read_template_between(
                 mended: None,
                 defined_at,
                 parameters_at: names.parameters,
+                parent_at: None,
             })
         }
         Err(error) => {
@@ -154,24 +166,29 @@ fn with_fault(
         × DerivesNames usual default_marks (string_bytes m.text) (output_view m.output) names
         × (t.defined_at.items ≡ map (λ n. n.span) names.components)
         × (grouped_of t.parameters_at ≡ group_all names.parameters nothing_grouped))) }
+    ensures parent { IfOk result (λ t. MatchOption t.mended (t.parent_at ≡ None)
+        (λ m. IsParentAt (string_bytes m.text) (output_view m.output).parent t.parent_at)) }
 {
     let Some((mended, names)) = read_mended(alloc, file.as_str(), source, faults)? else {
         return Ok(without_tree(alloc, file, error));
     };
     let defined_at = spans_of(alloc, &names, &mended.output.component_definitions)?;
+    let parent_at = parent_if_any(alloc, &mended.output, mended.text.as_str())?;
     Ok(Template {
         file,
         parsed: Err(error),
         mended: Some(mended),
         defined_at,
         parameters_at: names.parameters,
+        parent_at,
     })
 }
 
 // A template of which a fault is known, and nothing else.
 fn without_tree(alloc: Global, file: String, error: Error) -> Template
     ensures { (result.file ≡ file) × (result.parsed ≡ Err error) × (result.mended ≡ None)
-        × (result.defined_at.items ≡ []) × (grouped_of result.parameters_at ≡ nothing_grouped) }
+        × (result.defined_at.items ≡ []) × (grouped_of result.parameters_at ≡ nothing_grouped)
+        × (result.parent_at ≡ None) }
 {
     Template {
         file,
@@ -179,6 +196,21 @@ fn without_tree(alloc: Global, file: String, error: Error) -> Template
         mended: None,
         defined_at: Vec::new(alloc),
         parameters_at: BTreeMap::new(alloc),
+        parent_at: None,
+    }
+}
+
+// Where the text of this tree has the name of the template that it extends.
+fn parent_if_any(
+    alloc: Global,
+    output: &ParserOutput,
+    text: &str,
+) -> Result<Option<Span>, AllocError>
+    ensures { IfOk result (IsParentAt text.now (output_view output.now).parent) }
+{
+    match &output.parent {
+        Some(_) => parent_at(alloc, text),
+        None => Ok(None),
     }
 }
 

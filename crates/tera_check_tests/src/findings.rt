@@ -46,7 +46,12 @@ fn what_is_not_used_is_a_warning(rt: HostRuntime) {
     for kind in &KINDS {
         let unused = matches!(
             kind,
-            Kind::RepeatedArgument | Kind::UnusedParameter | Kind::RepeatedKey
+            Kind::RepeatedArgument
+                | Kind::UnusedParameter
+                | Kind::RepeatedKey
+                | Kind::CircularInclude
+                | Kind::UndefinedBlock
+                | Kind::SuperWithoutParent
         );
         assert!(rt;
             (kind.severity() == Severity::Warning) == unused,

@@ -34,7 +34,7 @@ abbrev pub common_view : Common → CommonVal
 common_view c = record { extensions = lists_view c.extensions; stdin = c.stdin.now; colours = c.colours; quiet = c.quiet }
 
 pub data JobVal : Type 0 where
-  Checks : Form → Option (List (List ℕ)) → List ℕ → Option (List (List ℕ)) → Option (List (List ℕ)) → Bool → Option (List ℕ) → Option (List (List ℕ)) → CommonVal → JobVal
+  Checks : Form → Option (List (List ℕ)) → Option (List ℕ) → List ℕ → Option (List (List ℕ)) → Option (List (List ℕ)) → Bool → Option (List ℕ) → Option (List (List ℕ)) → CommonVal → JobVal
   Shows : Bool → Bool → Option (List ℕ) → List ℕ → CommonVal → JobVal
   Lists : Bool → Option (List ℕ) → Option (List (List ℕ)) → CommonVal → JobVal
   LaysOut : Mode → Option (List ℕ) → Option (List (List ℕ)) → CommonVal → JobVal
@@ -43,7 +43,7 @@ pub data JobVal : Type 0 where
 
 abbrev pub check_view : Check → JobVal
 check_view j =
-    Checks j.form (lists_view j.library) j.max_faults.now (lists_view j.rules.select) (lists_view j.rules.ignore) j.error_on_warnings (option_map (λ m. m.now) j.markers)
+    Checks j.form (lists_view j.library) (option_map (λ r. r.now) j.root) j.max_faults.now (lists_view j.rules.select) (lists_view j.rules.ignore) j.error_on_warnings (option_map (λ m. m.now) j.markers)
     (lists_view j.files) (common_view j.common)
 
 abbrev pub tree_view : Tree → JobVal
@@ -120,7 +120,7 @@ common_of rows = record {
 
 abbrev pub check_of : List Row → JobVal
 check_of rows =
-    Checks (form_of (first_of (codes "output-format") rows)) (all_of (codes "library") rows) (text_or [] (codes "max-faults") rows)
+    Checks (form_of (first_of (codes "output-format") rows)) (all_of (codes "library") rows) (first_of (codes "root") rows) (text_or [] (codes "max-faults") rows)
     (all_of (codes "select") rows) (all_of (codes "ignore") rows) (is_set (codes "error-on-warnings") rows) (first_of (codes "markers") rows) (all_of (codes "files") rows) (common_of rows)
 
 abbrev pub tree_of : List Row → JobVal

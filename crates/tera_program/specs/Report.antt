@@ -19,16 +19,29 @@ use Rattle.tera_program.specs.declared.job.Form.{Form}
 use Rattle.tera_program.specs.declared.reading.Templates.{Templates}
 use Rattle.tera_program.specs.declared.status.Ended.{Ended}
 use Rattle.tera_program.specs.declared.reporting.Report.{Report}
+use Rattle.tera_site.specs.Found.{AddsNames}
+use Rattle.tera_site.specs.declared.found.SiteNames.{SiteNames}
 
 -- a writer took all of the text, or a beginning of it where it stopped
 abbrev pub Takes : Option (List ℕ) → Option (List ℕ) → List ℕ → Option Error → Type 0
 Takes old new text None = Appends old new text
 Takes old new text (Some error) = (n : ℕ) × (n < length text) × Appends old new (take n text)
 
--- what could not be read and what was found in the templates and is to be reported was written whole, or a beginning of it, and counted
-pub record IsReported (form : Form) (style : Style) (known : Known) (unread : List UnreadVal) (templates : List Template) (checked : ℕ) (on : Finding → Bool) (old new : Option (List ℕ)) (report : Report) : Type 0 where
+-- what is found of names is added, where they are known
+abbrev pub AreWithNames : Option SiteNames → List Template → ℕ → List Found → List Found → Type 0
+AreWithNames None templates checked found all = all ≡ found
+AreWithNames (Some names) templates checked found all = AddsNames names templates checked found all
+
+-- all that is found in the templates
+pub record AreAllFound (templates : List Template) (names : Option SiteNames) (checked : ℕ) (all : List Found) : Type 0 where
   pub found : List Found
   pub are : AreFound (known_by templates) (are_open templates) checked 0 templates found
+  pub named : AreWithNames names templates checked found all
+
+-- what could not be read and what was found in the templates and is to be reported was written whole, or a beginning of it, and counted
+pub record IsReported (form : Form) (style : Style) (known : Known) (unread : List UnreadVal) (templates : List Template) (names : Option SiteNames) (checked : ℕ) (on : Finding → Bool) (old new : Option (List ℕ)) (report : Report) : Type 0 where
+  pub found : List Found
+  pub are : AreAllFound templates names checked found
   pub all : List Found
   pub reported : AreReportedOf on found all
   pub written : Takes old new (text_of form style known unread (map found_view all)) report.stopped
@@ -53,6 +66,6 @@ pub record IsChecked (form : Form) (style : Style) (on : Finding → Bool) (stri
   pub report : Result Report AllocError
   pub written : MatchResult report
       (IsReported form style (with_sources nothing all.sources.items) (map unreadable_view all.unread.items) all.templates.items
-      all.checked on old new)
+      all.names all.checked on old new)
       (λ _. Keeps old new)
   pub ends : ended ≡ ended_of report strict (vec_len all.unread)

@@ -3,6 +3,7 @@
 ghost use Rattle.std.specs.Prelude.{◌≡◌, ◌<◌, ◌^◌, ◌++◌, ◌∷◌, [], ℕ, Some, string_bytes, map, IfOk, IfSome, OnErr};
 ghost use Rattle.std.specs.Fmt.{decimal};
 ghost use Rattle.std.specs.Io.KnownBytes.{Keeps};
+ghost use Rattle.tera_lexer.specs.grammar.Marks.{IsValid, marks_of};
 ghost use Rattle.tera_program.specs.Counting.{checked_line};
 ghost use Rattle.tera_program.specs.Sources.{nothing, unreadable_view, with_sources};
 ghost use Rattle.tera_program.specs.Report.{IsChecked, IsReported, counts_of, ended_of};
@@ -15,11 +16,12 @@ use crate::markers::{other_markers_of, print_unfit};
 use crate::output::{print_error, print_stopped, put_error};
 use crate::reading::{Reading, Templates, read_all};
 use crate::reporting::{Report, write_findings};
+use crate::site::names_below;
 use crate::status::Ended;
 use std::alloc::{AllocError, Global};
-use std::io;
 use std::io::Write;
 use std::rt::{Env, Files};
+use std::{fs, io};
 use terminal_text::Style;
 
 /// Checks the files, beside those of the library.
@@ -36,6 +38,10 @@ pub(crate) fn run<R: Files + Env + Input + Print + Eprint + AllocGlobal + Clone 
     };
     if has_input(job.library) {
         print_error(rt, "tera", "--library: expected a file or a folder");
+        return Ended::failed();
+    }
+    if !is_folder_if_any(rt, job.root) {
+        print_error(rt, "tera", "--root: expected a folder");
         return Ended::failed();
     }
     let Some(faults) = number_from_1(job.max_faults) else {
@@ -55,7 +61,7 @@ pub(crate) fn run<R: Files + Env + Input + Print + Eprint + AllocGlobal + Clone 
         // Excerpts alone want the sources.
         keeps_sources: matches!(job.form, Form::Full),
     };
-    match read_all(rt, job.common, files, job.library, &reading) {
+    match read_site(rt, job, files, &reading) {
         Ok(all) => {
             let (ended, is_said) = run_on(rt, style, job, &all, &mut io::writer(rt));
             all.forget();
@@ -76,6 +82,45 @@ fn number_from_1(word: &str) -> Option<usize>
     match word.parse::<usize>() {
         Ok(number) if number > 0 => Some(number),
         _ => None,
+    }
+}
+
+// Reads the files and the library, and of a site the rest of its templates and their names.
+fn read_site<R: Files + Input + Eprint + AllocGlobal + Clone + Drop>(
+    rt: &R,
+    job: &Check<'_, '_>,
+    files: &[&str],
+    reading: &Reading,
+) -> Result<Templates, AllocError>
+    requires { IfSome reading.now.markers (λ m. IsValid (marks_of m)) }
+{
+    let Some(root) = job.root else {
+        return read_all(rt, job.common, files, job.library, reading);
+    };
+    let library = with_root(rt.alloc(), job.library, root)?;
+    let mut all = read_all(rt, job.common, files, Some(library.as_slice()), reading)?;
+    all.names = Some(names_below(rt, root, &all.templates)?);
+    Ok(all)
+}
+
+// The paths of the library, and the root.
+fn with_root<'a>(
+    alloc: Global,
+    library: Option<&[&'a str]>,
+    root: &'a str,
+) -> Result<Vec<&'a str>, AllocError> {
+    let mut paths = Vec::new(alloc);
+    if let Some(library) = library {
+        paths.extend_from_slice(library)?;
+    }
+    paths.push(root)?;
+    Ok(paths)
+}
+
+fn is_folder_if_any(rt: &impl Files, root: Option<&str>) -> bool {
+    match root {
+        Some(root) => fs::metadata(rt, root).is_ok_and(|data| data.is_dir()),
+        None => true,
     }
 }
 
@@ -122,7 +167,7 @@ fn write_all_findings<W: Write>(
 ) -> Result<Report, AllocError>
     ensures report { IfOk result (IsReported job.now.form style
         (with_sources nothing all.now.sources.items) (map unreadable_view all.now.unread.items)
-        all.now.templates.items all.now.checked (is_reported job.now.rules)
+        all.now.templates.items all.now.names all.now.checked (is_reported job.now.rules)
         (W.contents writer.old) (W.contents writer.new)) }
     ensures memory { OnErr result (Keeps (W.contents writer.old) (W.contents writer.new)) }
 {
@@ -135,6 +180,7 @@ fn write_all_findings<W: Write>(
         &mut sources,
         &all.unread,
         &all.templates,
+        &all.names,
         all.checked,
         job.rules,
     )

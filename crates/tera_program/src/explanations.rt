@@ -5,7 +5,7 @@
 use tera_check::Kind;
 
 /// The names of the rules.
-pub(crate) static RULES: [&str; 10] = [
+pub(crate) static RULES: [&str; 15] = [
     "fault",
     "undefined-component",
     "missing-argument",
@@ -15,11 +15,16 @@ pub(crate) static RULES: [&str; 10] = [
     "unused-parameter",
     "defined-again",
     "repeated-key",
+    "missing-template",
+    "circular-extends",
+    "circular-include",
+    "undefined-block",
+    "super-without-parent",
     "unread",
 ];
 
 /// Those of which no findings may be asked for.
-pub(crate) static OPTIONAL_RULES: [&str; 8] = [
+pub(crate) static OPTIONAL_RULES: [&str; 13] = [
     "undefined-component",
     "missing-argument",
     "unknown-argument",
@@ -28,6 +33,11 @@ pub(crate) static OPTIONAL_RULES: [&str; 8] = [
     "unused-parameter",
     "defined-again",
     "repeated-key",
+    "missing-template",
+    "circular-extends",
+    "circular-include",
+    "undefined-block",
+    "super-without-parent",
 ];
 
 /// What the page has on findings of the kind.
@@ -42,6 +52,11 @@ pub(crate) fn explanation(kind: Kind) -> &'static str {
         Kind::UnusedParameter => UNUSED_PARAMETER,
         Kind::DefinedAgain => DEFINED_AGAIN,
         Kind::RepeatedKey => REPEATED_KEY,
+        Kind::MissingTemplate => MISSING_TEMPLATE,
+        Kind::CircularExtends => CIRCULAR_EXTENDS,
+        Kind::CircularInclude => CIRCULAR_INCLUDE,
+        Kind::UndefinedBlock => UNDEFINED_BLOCK,
+        Kind::SuperWithoutParent => SUPER_WITHOUT_PARENT,
     }
 }
 
@@ -150,4 +165,57 @@ checked, as the parser keeps only the last value of each of its keys.
 Remove the value that is not meant:
 
     {{ table(style={"color": color, "width": 100}) }}
+"##;
+
+const MISSING_TEMPLATE: &str = r##"
+A template extends or includes a template that is not there, so Tera refuses to load it. The name is a path below the
+folder of the templates.
+
+    {% extends "bas.html" %}
+
+Correct the name, or add the template:
+
+    {% extends "base.html" %}
+"##;
+
+const CIRCULAR_EXTENDS: &str = r##"
+A template extends one that extends it, directly or through others, so Tera refuses to load it.
+
+    {% extends "page.html" %}
+
+This, in `page.html`, is reported. One of the templates has to extend another one, or none:
+
+    {% extends "base.html" %}
+"##;
+
+const CIRCULAR_INCLUDE: &str = r##"
+A template includes one that includes or extends it, directly or through others. If nothing stops this, rendering does
+not end.
+
+    {% include "menu.html" %}
+
+This, in `menu.html`, is reported. Remove the include, or include a template that does not lead back:
+
+    {% include "item.html" %}
+"##;
+
+const UNDEFINED_BLOCK: &str = r##"
+A template extends another, and has a block that no template has that it extends. So the block is never shown.
+
+    {% extends "base.html" %}{% block contents %}News{% endblock %}
+
+Give it the name of a block of the other template, or add the block there:
+
+    {% extends "base.html" %}{% block content %}News{% endblock %}
+"##;
+
+const SUPER_WITHOUT_PARENT: &str = r##"
+`super()` shows the block of the template that this one extends. Here no template that it extends has the block, or
+`super()` is in no block, so there is nothing to show.
+
+    {% block content %}{{ super() }}News{% endblock %}
+
+Remove the call, or let the template extend one that has the block:
+
+    {% extends "base.html" %}{% block content %}{{ super() }}News{% endblock %}
 "##;

@@ -37,6 +37,8 @@ pub(crate) struct Check<'b, 'a> {
     pub(crate) form: Form,
     /// Where the components are that may be called, beside those of the files.
     pub(crate) library: Option<&'b [&'a str]>,
+    /// The folder below which the templates of the site have their names.
+    pub(crate) root: Option<&'a str>,
     /// How many faults of a file are reported at the most: a word, which need be no number.
     pub(crate) max_faults: &'a str,
     pub(crate) rules: Rules<'b, 'a>,
@@ -149,6 +151,7 @@ fn check_in<'b, 'a>(found: &'b ArgMatches<'a>) -> Check<'b, 'a>
     Check {
         form: form_named(text(found, "output-format")),
         library: texts_in(found, "library"),
+        root: text(found, "root"),
         max_faults: text_or(found, "max-faults", ""),
         rules: Rules {
             select: texts_in(found, "select"),

@@ -5,7 +5,7 @@
 //! its output.
 //!
 //! In the order of reading: `options`, the words; `job`, what they ask; `status`, how it ends; `colours` and `output`;
-//! `reading`, the templates; `rules`, `found`, `forms`, `writing` and `reporting`, what is found in them, counted and as text; `counting`,
+//! `reading`, the templates; `site`, their names in a site; `rules`, `found`, `forms`, `writing` and `reporting`, what is found in them, counted and as text; `counting`,
 //! the last line; `plan` and `markers`, what a file becomes; `sending`, the messages to an editor; then a module for
 //! each subcommand.
 #![tactic(auto)]
@@ -30,6 +30,7 @@ mod reporting;
 mod rules;
 mod sending;
 mod server;
+mod site;
 mod status;
 mod tree;
 mod writing;

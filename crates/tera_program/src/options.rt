@@ -38,11 +38,14 @@ All syntax errors of a file are reported, and what else is found in the rest of 
 a syntax error: no component is undefined while the tag of a definition has one. Between other markers (--markers) only
 the first syntax error of a file is reported, and nothing else is found in it.
 
+With --root the names that templates extend and include are checked too: a name is a path below the root.
+
 This parser does not read floating-point numbers. Tera does: a tag that has one gets the error `Float literals are not
 supported`, and is not checked.
 
 Examples:
   tera check templates
+  tera check --root templates templates
   tera check templates/page.html --library templates/components
   tera check --output-format github templates
   tera check --stdin-filename page.html --library templates - < page.html
@@ -152,6 +155,12 @@ fn check<'a>(alloc: Global) -> Result<Command<'a>, AllocError> {
             "library",
             "PATH",
             "File or folder whose components may be called; it is not checked itself",
+        ))?
+        .arg(option(
+            alloc,
+            "root",
+            "FOLDER",
+            "Folder below which the templates of a site are, so that what they extend and include is checked",
         ))?;
     with_files(alloc, command)
 }

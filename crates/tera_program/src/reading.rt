@@ -14,6 +14,7 @@ use std::rt::Files;
 use tera_check::{Template, read_template, read_template_between};
 use tera_files::{Found, Selection, Source, Unlisted, Unread, files_of, read_source};
 use tera_parser::lexer::Delimiters;
+use tera_site::SiteNames;
 use terminal_text::Sources;
 
 /// Templates, beside the sources that they were read from.
@@ -26,6 +27,8 @@ pub(crate) struct Templates {
     pub(crate) checked: usize,
     /// What could not be read.
     pub(crate) unread: Vec<Unreadable>,
+    /// The names of the templates, where they are those of a site.
+    pub(crate) names: Option<SiteNames>,
 }
 
 /// How templates are read.
@@ -54,6 +57,7 @@ impl Templates {
             sources: Vec::new(alloc),
             checked: 0,
             unread: Vec::new(alloc),
+            names: None,
         }
     }
 

@@ -4,7 +4,7 @@ ghost use Rattle.std.specs.Prelude.{IfOk, OnErr, map};
 ghost use Rattle.std.specs.Io.KnownBytes.{Keeps};
 ghost use Rattle.terminal_text.specs.Files.{source_of};
 ghost use Rattle.tera_program.specs.Sources.{unreadable_view};
-ghost use Rattle.tera_program.specs.Report.{IsReported};
+ghost use Rattle.tera_program.specs.Report.{AreAllFound, IsReported};
 ghost use Rattle.tera_program.specs.Rules.{is_reported};
 
 use crate::forms::text_of;
@@ -16,7 +16,8 @@ use crate::writing::write_all;
 use std::alloc::{AllocError, Global};
 use std::io;
 use std::io::Write;
-use tera_check::{Template, all_found};
+use tera_check::{Found, Template, all_found};
+use tera_site::{SiteNames, add_names};
 use terminal_text::{Sources, Style};
 
 /// What was reported.
@@ -34,23 +35,24 @@ pub(crate) struct Report {
 
 /// Writes the text of what could not be read, and of all that is found in the templates and is to be reported. Of those
 /// after the first `checked` only faults are. Nothing is written before the whole text is ready.
-pub(crate) fn write_findings<W: Write>(
+pub(crate) fn write_findings<'t, W: Write>(
     alloc: Global,
     writer: &mut W,
     form: Form,
     style: Style,
     sources: &mut Sources<'_>,
     unread: &Vec<Unreadable>,
-    templates: &Vec<Template>,
+    templates: &'t Vec<Template>,
+    names: &'t Option<SiteNames>,
     checked: usize,
     rules: Rules<'_, '_>,
 ) -> Result<Report, AllocError>
     ensures report { IfOk result (IsReported form style (source_of sources.old)
-        (map unreadable_view unread.now.items) templates.now.items checked (is_reported rules.entry)
+        (map unreadable_view unread.now.items) templates.now.items names.now checked (is_reported rules.entry)
         (W.contents writer.old) (W.contents writer.new)) }
     ensures memory { OnErr result (Keeps (W.contents writer.old) (W.contents writer.new)) }
 {
-    let mut all = all_found(alloc, templates, checked)?;
+    let mut all = found_in(alloc, templates, names, checked)?;
     leave_reported(&mut all, rules);
     let text = text_of(
         alloc,
@@ -66,4 +68,23 @@ pub(crate) fn write_findings<W: Write>(
         faulty: faulty_of(all.as_slice()),
         stopped: write_all(writer, text.as_slice()).err(),
     })
+}
+
+// What is found in each template: of itself and its components, and of names where they are known.
+fn found_in<'a>(
+    alloc: Global,
+    templates: &'a Vec<Template>,
+    names: &'a Option<SiteNames>,
+    checked: usize,
+) -> Result<Vec<Found<'a>>, AllocError>
+    ensures { IfOk result (λ all. AreAllFound templates.now.items names.now checked all.items) }
+{
+    let mut all = all_found(alloc, templates, checked)?;
+    match names {
+        Some(names) => {
+            add_names(alloc, names, templates, checked, &mut all)?;
+            Ok(all)
+        }
+        None => Ok(all),
+    }
 }

@@ -80,6 +80,11 @@ named kinds.RepeatedArgument = literal (kind_name kinds.RepeatedArgument) refl
 named kinds.UnusedParameter = literal (kind_name kinds.UnusedParameter) refl
 named kinds.DefinedAgain = literal (kind_name kinds.DefinedAgain) refl
 named kinds.RepeatedKey = literal (kind_name kinds.RepeatedKey) refl
+named kinds.MissingTemplate = literal (kind_name kinds.MissingTemplate) refl
+named kinds.CircularExtends = literal (kind_name kinds.CircularExtends) refl
+named kinds.CircularInclude = literal (kind_name kinds.CircularInclude) refl
+named kinds.UndefinedBlock = literal (kind_name kinds.UndefinedBlock) refl
+named kinds.SuperWithoutParent = literal (kind_name kinds.SuperWithoutParent) refl
 
 commanded : (severity : Severity) → Lacks (command_of severity)
 commanded Error = literal (command_of Error) refl

@@ -1,0 +1,9 @@
+pub mod AroundLemmas
+pub mod CountLemmas
+pub mod FoundLemmas
+pub mod NumbersLemmas
+pub mod PageLemmas
+pub mod PlacedLemmas
+pub mod SiteLemmas
+pub mod TopsLemmas
+pub mod TourLemmas

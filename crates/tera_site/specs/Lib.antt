@@ -1,0 +1,9 @@
+pub mod Alike
+pub mod Found
+pub mod Inside
+pub mod Named
+pub mod Pages
+pub mod Placed
+pub mod Sites
+pub mod Tours
+pub mod Views

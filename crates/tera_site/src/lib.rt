@@ -1,0 +1,21 @@
+//! The templates of a site by their names: what each extends and includes, and what is found of that.
+//!
+//! It takes templates that were read, with their names. It gives what is around each (`IsSite`), and finds what of its
+//! names no template has, or leads back to it, and which blocks have nothing above them (`due_names`). What is found of
+//! components is in `tera_check`.
+//!
+//! In the order of reading: specs `Pages` and `pages`; specs `Sites`, `site` and `above`; specs `Placed` and `Named`,
+//! `named`; `messages`; specs `Found` and `found`, beside what else is found; specs `Alike` and `laws`.
+#![tactic(auto)]
+
+mod above;
+mod found;
+pub mod laws;
+mod messages;
+mod named;
+mod pages;
+mod site;
+
+pub use found::{SiteNames, add_names, used_names};
+pub use named::names_found;
+pub use site::{Around, Site};

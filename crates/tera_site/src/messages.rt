@@ -1,0 +1,50 @@
+//! The texts of findings.
+
+ghost use Rattle.std.specs.Prelude.{◌≡◌, IfOk, string_bytes};
+ghost use Rattle.tera_site.specs.Named.{missing_text, circular_extends_text, circular_include_text, undefined_block_text, super_text, super_outside_text};
+
+use std::alloc::{AllocError, Global};
+
+/// That no template has this name.
+pub(crate) fn missing_template(alloc: Global, name: &str) -> Result<String, AllocError>
+    ensures { IfOk result (λ m. string_bytes m ≡ missing_text name.now) }
+{
+    format!(in alloc; "No template is named `{name}`")
+}
+
+/// That the template of this name, which the template extends, extends it.
+pub(crate) fn circular_extends(alloc: Global, name: &str) -> Result<String, AllocError>
+    ensures { IfOk result (λ m. string_bytes m ≡ circular_extends_text name.now) }
+{
+    format!(in alloc; "Template `{name}` extends this template, which extends it")
+}
+
+/// That the template of this name, which the template includes, includes it.
+pub(crate) fn circular_include(alloc: Global, name: &str) -> Result<String, AllocError>
+    ensures { IfOk result (λ m. string_bytes m ≡ circular_include_text name.now) }
+{
+    format!(in alloc; "Template `{name}` includes this template, which includes it")
+}
+
+/// That no template has this block that the template extends.
+pub(crate) fn undefined_block(alloc: Global, name: &str) -> Result<String, AllocError>
+    ensures { IfOk result (λ m. string_bytes m ≡ undefined_block_text name.now) }
+{
+    format!(in alloc; "No template that this one extends has a block named `{name}`")
+}
+
+/// That `super()` has no value in this block.
+pub(crate) fn super_without_parent(alloc: Global, name: &str) -> Result<String, AllocError>
+    ensures { IfOk result (λ m. string_bytes m ≡ super_text name.now) }
+{
+    format!(in alloc;
+        "`super()` has no value: no template that this one extends has a block named `{name}`"
+    )
+}
+
+/// That `super()` is in no block.
+pub(crate) fn super_outside(alloc: Global) -> Result<String, AllocError>
+    ensures { IfOk result (λ m. string_bytes m ≡ super_outside_text) }
+{
+    String::from_str(alloc, "`super()` is in no block")
+}

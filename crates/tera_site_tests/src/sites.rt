@@ -1,0 +1,131 @@
+//! What is found of the names of templates in a site: one fault of each kind, beside look-alikes that are right.
+
+use std::alloc::{AllocError, Global};
+use std::collections::BTreeSet;
+use std::test::Fail;
+use tera_check::{Template, all_found, read_template};
+use tera_report::push_lines;
+use tera_site::{SiteNames, add_names, used_names};
+
+const PLANTED: [(&str, &str); 16] = [
+    (
+        "base",
+        "{% block a %}{% block inner %}{% endblock %}{% endblock %}{% include \"part\" %}",
+    ),
+    ("part", "{% include \"unread\" %}"),
+    (
+        "child",
+        "{% extends \"base\" %}{% block a %}{{ super() }}{% block new %}{{ super() }}{% endblock %}{% endblock %}\n{% block b %}{{ super() }}{% endblock %}",
+    ),
+    (
+        "grand",
+        "{% extends \"child\" %}{% block inner %}{{ super() }}{% endblock %}{% block b %}{{ super() }}{% endblock %}\n{% block c %}{% endblock %}",
+    ),
+    (
+        "lost",
+        "{# #}{% extends \"nowhere\" %}{% block x %}{{ super() }}{% endblock %}",
+    ),
+    ("below", "{% extends \"lost\" %}{% block y %}{% endblock %}"),
+    (
+        "itself",
+        "{% extends \"itself\" %}{% block a %}{% endblock %}",
+    ),
+    ("one", "{% extends \"two\" %}"),
+    ("two", "{% extends \"one\" %}"),
+    (
+        "three",
+        "{% extends \"one\" %}{% block a %}{{ super() }}{% endblock %}",
+    ),
+    ("again", "{% if x %}{% include \"again\" %}{% endif %}"),
+    ("first", "{% include \"second\" %}{% include \"base\" %}"),
+    (
+        "second",
+        "{% for x in y %}{% include \"third\" %}{% endfor %}",
+    ),
+    ("third", "{% extends \"first\" %}"),
+    (
+        "includes",
+        "{% include \"absent\" %}{% include \"first\" %}",
+    ),
+    (
+        "alone",
+        "{{ super() }}{% block z %}{{ super() | upper }}{% endblock %}{{ other.super }}",
+    ),
+];
+
+const FOUND: &str =
+    "child:1:65: warning[super-without-parent]: `super()` has no value: no template that this one extends has a block named `new`
+child:2:10: warning[undefined-block]: No template that this one extends has a block named `b`
+child:2:17: warning[super-without-parent]: `super()` has no value: no template that this one extends has a block named `b`
+grand:2:10: warning[undefined-block]: No template that this one extends has a block named `c`
+lost:1:17: error[missing-template]: No template is named `nowhere`
+itself:1:12: error[circular-extends]: Template `itself` extends this template, which extends it
+one:1:12: error[circular-extends]: Template `two` extends this template, which extends it
+two:1:12: error[circular-extends]: Template `one` extends this template, which extends it
+again:1:22: warning[circular-include]: Template `again` includes this template, which includes it
+first:1:12: warning[circular-include]: Template `second` includes this template, which includes it
+second:1:28: warning[circular-include]: Template `third` includes this template, which includes it
+includes:1:12: error[missing-template]: No template is named `absent`
+alone:1:4: warning[super-without-parent]: `super()` is in no block
+alone:1:30: warning[super-without-parent]: `super()` has no value: no template that this one extends has a block named `z`
+";
+
+#[derive(Drop)]
+struct Read {
+    names: SiteNames,
+    templates: Vec<Template>,
+}
+
+fn read(alloc: Global) -> Result<Read, AllocError> {
+    let mut names = Vec::new(alloc);
+    let mut templates = Vec::new(alloc);
+    for (name, source) in &PLANTED {
+        names.push(Some(String::from_str(alloc, name)?))?;
+        templates.push(read_template(alloc, name, source, 100)?)?;
+    }
+    let mut others = BTreeSet::new(alloc);
+    others.insert(String::from_str(alloc, "unread")?)?;
+    Ok(Read {
+        names: SiteNames { names, others },
+        templates,
+    })
+}
+
+// What is found in the first so many templates.
+fn found_in(alloc: Global, read: &Read, checked: usize) -> Result<String, AllocError> {
+    let mut all = all_found(alloc, &read.templates, checked)?;
+    add_names(alloc, &read.names, &read.templates, checked, &mut all)?;
+    let mut lines = String::new(alloc);
+    for found in &all {
+        for finding in &found.findings {
+            push_lines(alloc, &mut lines, found.file, finding)?;
+        }
+    }
+    Ok(lines)
+}
+
+#[test]
+fn a_planted_site_has_these_findings(rt: HostRuntime) -> Result<(), Fail> {
+    let read = read(rt.alloc())?;
+    let lines = found_in(rt.alloc(), &read, PLANTED.len())?;
+    assert_eq!(&rt; lines.as_str(), FOUND);
+    Ok(())
+}
+
+#[test]
+fn templates_that_are_not_checked_have_none(rt: HostRuntime) -> Result<(), Fail> {
+    let read = read(rt.alloc())?;
+    let lines = found_in(rt.alloc(), &read, 2)?;
+    assert_eq!(&rt; lines.as_str(), "");
+    Ok(())
+}
+
+#[test]
+fn parents_and_includes_are_used(rt: HostRuntime) -> Result<(), Fail> {
+    let read = read(rt.alloc())?;
+    let used = used_names(rt.alloc(), &read.templates)?;
+    assert!(rt; used.contains(&"nowhere"));
+    assert!(rt; used.contains(&"absent"));
+    assert!(rt; !used.contains(&"alone"));
+    Ok(())
+}
