@@ -1,7 +1,8 @@
 -- What the words of the command line ask.
-use Rattle.std.specs.Prelude.{◌&&◌, ◌∷◌, [], ℕ, List, Bool, false, not, Option, None, Some, option_map, option_and_then, unwrap_or, if◌then◌else◌, bytes_eq, codes}
+use Rattle.std.specs.Prelude.{◌&&◌, ◌∷◌, [], ℕ, List, Bool, false, not, Option, None, Some, option_map, unwrap_or, if◌then◌else◌, bytes_eq, codes}
 use denote.Ref.{Bor}
 use Rattle.std.specs.List.{list_any}
+use Rattle.std.specs.Option.{option_or}
 use Rattle.clap.specs.Words.{Row, first_of, all_of}
 use Rattle.tera_files.specs.Names.{texts}
 use Rattle.tera_program.specs.declared.colours.Colours.{Colours}
@@ -9,6 +10,7 @@ use Rattle.tera_program.specs.declared.colours.Colours.TheVariants.{Auto, Always
 use Rattle.tera_program.specs.declared.job.Check.{Check}
 use Rattle.tera_program.specs.declared.job.Common.{Common}
 use Rattle.tera_program.specs.declared.job.Components.{Components}
+use Rattle.tera_program.specs.declared.job.Defaults.{Defaults}
 use Rattle.tera_program.specs.declared.job.Form.{Form}
 use Rattle.tera_program.specs.declared.job.Form.TheVariants as forms
 use Rattle.tera_program.specs.declared.job.Format.{Format}
@@ -17,6 +19,7 @@ use Rattle.tera_program.specs.declared.job.Job.TheVariants as jobs
 use Rattle.tera_program.specs.declared.job.Mode.{Mode}
 use Rattle.tera_program.specs.declared.job.Mode.TheVariants as modes
 use Rattle.tera_program.specs.declared.job.Tree.{Tree}
+use Rattle.tera_program.specs.declared.rules.Rules.{Rules}
 
 -- ---- what is seen of a job
 
@@ -26,15 +29,35 @@ lists_view = option_map (λ t. texts t.now)
 
 pub record CommonVal : Type 0 where
   pub extensions : Option (List (List ℕ))
+  pub exclude : Option (List (List ℕ))
   pub stdin : List ℕ
   pub colours : Colours
   pub quiet : Bool
+  pub config : Option (List ℕ)
+  pub no_config : Bool
 
 abbrev pub common_view : Common → CommonVal
-common_view c = record { extensions = lists_view c.extensions; stdin = c.stdin.now; colours = c.colours; quiet = c.quiet }
+common_view c = record {
+  extensions = lists_view c.extensions;
+  exclude = lists_view c.exclude;
+  stdin = c.stdin.now;
+  colours = c.colours;
+  quiet = c.quiet;
+  config = option_map (λ t. t.now) c.config;
+  no_config = c.no_config;
+}
+
+-- the rules that are asked for: those that are selected, ignored and off
+pub record RulesVal : Type 0 where
+  pub select : Option (List (List ℕ))
+  pub ignore : Option (List (List ℕ))
+  pub off : Option (List (List ℕ))
+
+abbrev pub rules_view : Rules → RulesVal
+rules_view r = record { select = lists_view r.select; ignore = lists_view r.ignore; off = lists_view r.off }
 
 pub data JobVal : Type 0 where
-  Checks : Form → Option (List (List ℕ)) → Option (List ℕ) → List ℕ → Option (List (List ℕ)) → Option (List (List ℕ)) → Bool → Option (List ℕ) → Option (List (List ℕ)) → CommonVal → JobVal
+  Checks : Form → Option (List (List ℕ)) → Option (List ℕ) → List ℕ → RulesVal → Bool → Option (List ℕ) → Option (List (List ℕ)) → CommonVal → JobVal
   Shows : Bool → Bool → Option (List ℕ) → List ℕ → CommonVal → JobVal
   Lists : Bool → Option (List ℕ) → Option (List (List ℕ)) → CommonVal → JobVal
   LaysOut : Mode → Option (List ℕ) → Option (List (List ℕ)) → CommonVal → JobVal
@@ -43,7 +66,7 @@ pub data JobVal : Type 0 where
 
 abbrev pub check_view : Check → JobVal
 check_view j =
-    Checks j.form (lists_view j.library) (option_map (λ r. r.now) j.root) j.max_faults.now (lists_view j.rules.select) (lists_view j.rules.ignore) j.error_on_warnings (option_map (λ m. m.now) j.markers)
+    Checks j.form (lists_view j.library) (option_map (λ r. r.now) j.root) j.max_faults.now (rules_view j.rules) j.error_on_warnings (option_map (λ m. m.now) j.markers)
     (lists_view j.files) (common_view j.common)
 
 abbrev pub tree_view : Tree → JobVal
@@ -62,6 +85,36 @@ job_view (jobs.Components j) = components_view j
 job_view (jobs.Format j) = format_view j
 job_view (jobs.Explain rule) = Explains rule.now
 job_view jobs.Server = Serves
+
+-- ---- what a file of settings says
+
+abbrev pub text_view : Option (Bor (List ℕ)) → Option (List ℕ)
+text_view = option_map (λ t. t.now)
+
+-- options count before settings, and nothing is left out or off by an option
+abbrev pub common_with : Defaults → CommonVal → CommonVal
+common_with d c = record {
+  extensions = option_or c.extensions (lists_view d.extensions);
+  exclude = lists_view d.exclude;
+  stdin = c.stdin;
+  colours = c.colours;
+  quiet = c.quiet;
+  config = c.config;
+  no_config = c.no_config;
+}
+
+abbrev pub rules_with : Defaults → RulesVal → RulesVal
+rules_with d r = record { select = r.select; ignore = r.ignore; off = lists_view d.off }
+
+-- A job with settings: what no option says is as they say.
+abbrev pub with_defaults : Defaults → JobVal → JobVal
+with_defaults d (Checks form library root faults rules strict markers files common) =
+    Checks form (option_or library (lists_view d.library)) root faults (rules_with d rules) strict (option_or markers (text_view d.markers)) files (common_with d common)
+with_defaults d (Shows json faulty markers file common) = Shows json faulty (option_or markers (text_view d.markers)) file common
+with_defaults d (Lists html markers files common) = Lists html (option_or markers (text_view d.markers)) files (common_with d common)
+with_defaults d (LaysOut mode markers files common) = LaysOut mode (option_or markers (text_view d.markers)) files (common_with d common)
+with_defaults d (Explains rule) = Explains rule
+with_defaults d Serves = Serves
 
 -- ---- whether standard input has a name for nothing
 
@@ -113,15 +166,22 @@ mode_of rows =
 abbrev pub common_of : List Row → CommonVal
 common_of rows = record {
   extensions = all_of (codes "extension") rows;
+  exclude = None;
   stdin = text_or (codes "-") (codes "stdin-filename") rows;
   colours = colours_of (first_of (codes "color") rows);
   quiet = is_set (codes "quiet") rows;
+  config = first_of (codes "config") rows;
+  no_config = is_set (codes "no-config") rows;
 }
+
+-- nothing is off by the command line
+abbrev pub rules_of : List Row → RulesVal
+rules_of rows = record { select = all_of (codes "select") rows; ignore = all_of (codes "ignore") rows; off = None }
 
 abbrev pub check_of : List Row → JobVal
 check_of rows =
     Checks (form_of (first_of (codes "output-format") rows)) (all_of (codes "library") rows) (first_of (codes "root") rows) (text_or [] (codes "max-faults") rows)
-    (all_of (codes "select") rows) (all_of (codes "ignore") rows) (is_set (codes "error-on-warnings") rows) (first_of (codes "markers") rows) (all_of (codes "files") rows) (common_of rows)
+    (rules_of rows) (is_set (codes "error-on-warnings") rows) (first_of (codes "markers") rows) (all_of (codes "files") rows) (common_of rows)
 
 abbrev pub tree_of : List Row → JobVal
 tree_of rows = Shows (is_set (codes "json") rows) (is_set (codes "faulty") rows) (first_of (codes "markers") rows) (text_or (codes "-") (codes "file") rows) (common_of rows)

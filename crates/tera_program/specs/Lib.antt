@@ -12,5 +12,6 @@ pub mod Report
 pub mod Reasons
 pub mod Rules
 pub mod Sent
+pub mod Settings
 pub mod Serving
 pub mod Trees

@@ -1,6 +1,6 @@
 -- The rules of findings: which are on, and what is printed of each.
 use denote.Ref.{Bor}
-use Rattle.std.specs.Prelude.{◌≡◌, ℕ, List, ◌++◌, Bool, true, false, ◌&&◌, ◌||◌, not, Option, None, Some, codes, bytes_eq, filter, map}
+use Rattle.std.specs.Prelude.{◌≡◌, ℕ, List, ◌++◌, Bool, true, false, ◌&&◌, ◌||◌, not, Option, None, Some, codes, bytes_eq, filter, if◌then◌else◌, is_some, map}
 use Rattle.std.specs.List.{list_any}
 use Rattle.tera_check.specs.Findings.{kind_name, severity_name, severity_of}
 use Rattle.tera_check.specs.declared.finding.Finding.{Finding}
@@ -18,10 +18,14 @@ abbrev pub is_fault : Kind → Bool
 is_fault kinds.Fault = true
 is_fault _ = false
 
--- Faults are always reported; of other kinds those that are selected, which are all if none are named, and are not ignored.
+-- Those that are named are selected, whatever is off; if none are named, all are that are not off.
+abbrev pub is_selected : Rules → Kind → Bool
+is_selected rules kind = if is_some rules.select then has_rule rules.select kind true else not (has_rule rules.off kind false)
+
+-- Faults are always reported; of other kinds those that are selected and not ignored.
 abbrev pub is_on : Rules → Kind → Bool
 is_on rules kind =
-    is_fault kind || (has_rule rules.select kind true && not (has_rule rules.ignore kind false))
+    is_fault kind || (is_selected rules kind && not (has_rule rules.ignore kind false))
 
 abbrev pub is_reported : Rules → Finding → Bool
 is_reported rules finding = is_on rules finding.kind

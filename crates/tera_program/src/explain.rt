@@ -39,8 +39,8 @@ fn text_with(alloc: Global, kind: Kind, section: &str) -> Result<String, AllocEr
     format!(in alloc; "{rule}: {severity}\n{section}")
 }
 
-// The kind of findings whose word this is.
-fn kind_named(word: &str) -> Option<Kind>
+/// The kind of findings whose word this is.
+pub(crate) fn kind_named(word: &str) -> Option<Kind>
     ensures { IfSome result (λ kind. kind_name kind ≡ word.now) }
 {
     for kind in &KINDS {

@@ -3,7 +3,7 @@
 ghost use Rattle.std.specs.Prelude.{◌≡◌, option_map, option_and_then, unwrap_or, codes};
 ghost use Rattle.clap.specs.Words.{found_of, rows_of, first_of, all_of, subcommand_rows_of};
 ghost use Rattle.tera_files.specs.Names.{texts};
-ghost use Rattle.tera_program.specs.Jobs.{are_unread, check_of, check_view, colours_of, common_of, common_view, components_of, components_view, form_of, format_of, format_view, is_set, is_text, is_unread, job_of, job_view, mode_of, names_unread_input, tree_of, tree_view};
+ghost use Rattle.tera_program.specs.Jobs.{are_unread, check_of, check_view, colours_of, common_of, common_view, common_with, components_of, components_view, form_of, format_of, format_view, is_set, is_text, is_unread, job_of, job_view, mode_of, names_unread_input, tree_of, tree_view, with_defaults};
 
 use crate::colours::Colours;
 use crate::rules::Rules;
@@ -26,10 +26,27 @@ pub(crate) enum Job<'b, 'a> {
 pub(crate) struct Common<'b, 'a> {
     /// How the names of templates end in a folder, where that is not as usual.
     pub(crate) extensions: Option<&'b [&'a str]>,
+    /// Files and folders that are left out, by the paths by which the system knows them.
+    pub(crate) exclude: Option<&'b [&'a str]>,
     /// The name of standard input.
     pub(crate) stdin: &'a str,
     pub(crate) colours: Colours,
     pub(crate) quiet: bool,
+    /// The file of settings, if it is not the nearest one.
+    pub(crate) config: Option<&'a str>,
+    /// Whether no file of settings is read.
+    pub(crate) no_config: bool,
+}
+
+/// What a file of settings says. It counts where no option says otherwise.
+#[derive(Clone, Copy, Debug)]
+pub(crate) struct Defaults<'b, 'a> {
+    pub(crate) extensions: Option<&'b [&'a str]>,
+    pub(crate) exclude: Option<&'b [&'a str]>,
+    pub(crate) library: Option<&'b [&'a str]>,
+    pub(crate) markers: Option<&'a str>,
+    /// The rules that are off.
+    pub(crate) off: Option<&'b [&'a str]>,
 }
 
 #[derive(Clone, Copy, Debug)]
@@ -127,6 +144,62 @@ impl<'b, 'a> Job<'b, 'a> {
             Job::Explain(_) | Job::Server => false,
         }
     }
+
+    /// The same, with what a file of settings says where no option says otherwise.
+    #[tactic(auto, using(crate::proofs::Defaults::or_map))]
+    pub(crate) fn with(self, defaults: Defaults<'b, 'a>) -> Job<'b, 'a>
+        ensures { job_view result ≡ with_defaults defaults.entry (job_view self.entry) }
+    {
+        match self {
+            Job::Check(job) => Job::Check(job.with(defaults)),
+            Job::Tree(job) => Job::Tree(Tree {
+                markers: job.markers.or(defaults.markers),
+                ..job
+            }),
+            Job::Components(job) => Job::Components(Components {
+                markers: job.markers.or(defaults.markers),
+                common: job.common.with(defaults),
+                ..job
+            }),
+            Job::Format(job) => Job::Format(Format {
+                markers: job.markers.or(defaults.markers),
+                common: job.common.with(defaults),
+                ..job
+            }),
+            Job::Explain(_) | Job::Server => self,
+        }
+    }
+}
+
+impl<'b, 'a> Check<'b, 'a> {
+    #[tactic(auto, using(crate::proofs::Defaults::or_map))]
+    fn with(self, defaults: Defaults<'b, 'a>) -> Check<'b, 'a>
+        ensures { check_view result ≡ with_defaults defaults.entry (check_view self.entry) }
+    {
+        Check {
+            library: self.library.or(defaults.library),
+            rules: Rules {
+                off: defaults.off,
+                ..self.rules
+            },
+            markers: self.markers.or(defaults.markers),
+            common: self.common.with(defaults),
+            ..self
+        }
+    }
+}
+
+impl<'b, 'a> Common<'b, 'a> {
+    #[tactic(auto, using(crate::proofs::Defaults::or_map))]
+    fn with(self, defaults: Defaults<'b, 'a>) -> Common<'b, 'a>
+        ensures { common_view result ≡ common_with defaults.entry (common_view self.entry) }
+    {
+        Common {
+            extensions: self.extensions.or(defaults.extensions),
+            exclude: defaults.exclude,
+            ..self
+        }
+    }
 }
 
 fn are_unread(common: Common<'_, '_>, files: Option<&[&str]>) -> bool
@@ -156,6 +229,7 @@ fn check_in<'b, 'a>(found: &'b ArgMatches<'a>) -> Check<'b, 'a>
         rules: Rules {
             select: texts_in(found, "select"),
             ignore: texts_in(found, "ignore"),
+            off: None,
         },
         error_on_warnings: is_set(found, "error-on-warnings"),
         markers: text(found, "markers"),
@@ -203,9 +277,12 @@ fn common_in<'b, 'a>(found: &'b ArgMatches<'a>) -> Common<'b, 'a>
 {
     Common {
         extensions: texts_in(found, "extension"),
+        exclude: None,
         stdin: text_or(found, "stdin-filename", "-"),
         colours: colours_named(text(found, "color")),
         quiet: is_set(found, "quiet"),
+        config: text(found, "config"),
+        no_config: is_set(found, "no-config"),
     }
 }
 

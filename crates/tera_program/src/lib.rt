@@ -1,13 +1,14 @@
 //! The program `tera`: its command line, and what each subcommand does.
 //!
 //! It takes a runtime and returns the status with which the process ends (`run`), so the program consists of this call.
-//! It depends on `clap` for the command line, on `tera_files` for files, and on `tera_report` and `terminal_text` for
-//! its output.
+//! It depends on `clap` for the command line, on `tera_files` for files, on `settings_files` for settings, and on
+//! `tera_report` and `terminal_text` for its output.
 //!
 //! In the order of reading: `options`, the words; `job`, what they ask; `status`, how it ends; `colours` and `output`;
-//! `reading`, the templates; `site`, their names in a site; `rules`, `found`, `forms`, `writing` and `reporting`, what is found in them, counted and as text; `counting`,
-//! the last line; `plan` and `markers`, what a file becomes; `sending`, the messages to an editor; then a module for
-//! each subcommand.
+//! `settings`, what a file of settings says; `excluded` and `reading`, the templates; `site`, their names in a site;
+//! `rules`, `found`, `forms`, `writing` and `reporting`, what is found in them, counted and as text; `counting`, the last
+//! line; `plan` and `markers`, what a file becomes; `sending`, the messages to an editor; then a module for each
+//! subcommand.
 #![tactic(auto)]
 
 mod aside;
@@ -15,6 +16,7 @@ mod check;
 mod colours;
 mod components;
 mod counting;
+mod excluded;
 mod explain;
 mod explanations;
 mod format;
@@ -30,6 +32,7 @@ mod reporting;
 mod rules;
 mod sending;
 mod server;
+mod settings;
 mod site;
 mod status;
 mod tree;
@@ -40,6 +43,7 @@ ghost use Rattle.std.specs.Prelude.{◌≤◌};
 use crate::job::Job;
 use crate::options::command;
 use crate::output::{print_error, print_stopped};
+use crate::settings::{print_unset, site_of};
 use crate::status::{Ended, status_of};
 use clap::Error;
 pub use colours::Terminals;
@@ -125,13 +129,45 @@ fn done<R: Files + Env + Input + Print + Eprint + AllocGlobal + Clone + Drop>(
             print_error(rt, "tera", why);
             Ended::failed()
         }
-        Some(Job::Check(job)) => check::run(rt, terminals, &job),
-        Some(Job::Tree(job)) => tree::run(rt, terminals, &job),
-        Some(Job::Components(job)) => components::run(rt, terminals, &job),
-        Some(Job::Format(job)) => format::run(rt, terminals, &job),
-        Some(Job::Explain(rule)) => explain::run(rt, rule),
-        Some(Job::Server) => server::run(rt),
+        Some(job) => run_configured(rt, terminals, job),
         None => Ended::failed(),
     };
     Ok(ended)
+}
+
+// Does the job with the settings that count for it.
+fn run_configured<R: Files + Env + Input + Print + Eprint + AllocGlobal + Clone + Drop>(
+    rt: &R,
+    terminals: Terminals,
+    job: Job<'_, '_>,
+) -> Ended {
+    let site = match site_of(rt, &job) {
+        Ok(site) => site,
+        Err(why) => {
+            print_unset(rt, &why);
+            return Ended::failed();
+        }
+    };
+    match site.words(rt.alloc()) {
+        Ok(words) => run_job(rt, terminals, job.with(words.defaults())),
+        Err(_) => {
+            print_error(rt, "tera", "out of memory");
+            Ended::failed()
+        }
+    }
+}
+
+fn run_job<R: Files + Env + Input + Print + Eprint + AllocGlobal + Clone + Drop>(
+    rt: &R,
+    terminals: Terminals,
+    job: Job<'_, '_>,
+) -> Ended {
+    match job {
+        Job::Check(job) => check::run(rt, terminals, &job),
+        Job::Tree(job) => tree::run(rt, terminals, &job),
+        Job::Components(job) => components::run(rt, terminals, &job),
+        Job::Format(job) => format::run(rt, terminals, &job),
+        Job::Explain(rule) => explain::run(rt, rule),
+        Job::Server => server::run(rt),
+    }
 }

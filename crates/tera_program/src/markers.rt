@@ -5,7 +5,7 @@ ghost use Rattle.tera_layout.specs.Steady.{is_steady};
 ghost use Rattle.tera_lexer.specs.grammar.Marks.{marks_of, IsValid};
 
 use crate::output::print_error;
-use std::alloc::Global;
+use std::alloc::{AllocError, Global};
 use std::borrow::CowStr;
 use std::str::SplitWhitespace;
 use tera_layout::are_steady;
@@ -99,27 +99,37 @@ fn next_of(alloc: Global, parts: &mut SplitWhitespace<'_>) -> Result<CowStr<'sta
 
 /// Says on standard error why nothing is read or laid out.
 pub(crate) fn print_unfit<R: Eprint + AllocGlobal>(rt: &R, why: &Unfit) {
+    match option_error(rt.alloc(), why) {
+        Ok(why) => print_error(rt, "tera", why.as_str()),
+        Err(_) => print_error(rt, "tera", "out of memory"),
+    }
+}
+
+fn option_error(alloc: Global, why: &Unfit) -> Result<String, AllocError> {
+    let why = why_unfit(alloc, why)?;
+    format!(in alloc; "--markers: {why}")
+}
+
+/// Why nothing is read or laid out, in words.
+pub(crate) fn why_unfit(alloc: Global, why: &Unfit) -> Result<String, AllocError> {
     match why {
-        Unfit::Memory => print_error(rt, "tera", "out of memory"),
-        Unfit::Number => print_error(
-            rt,
-            "tera",
-            "--markers: expected six markers, with white space between them",
+        Unfit::Memory => Err(AllocError),
+        Unfit::Number => String::from_str(
+            alloc,
+            "expected six markers, with white space between them",
         ),
-        Unfit::Rule(error) => print_rule(rt, error),
-        Unfit::Unsteady => print_error(
-            rt,
-            "tera",
-            "--markers: `block_start` and ends of tags may begin with no dash, letter, digit or `_`",
+        Unfit::Rule(error) => rule_of(alloc, error),
+        Unfit::Unsteady => String::from_str(
+            alloc,
+            "`block_start` and ends of tags may begin with no dash, letter, digit or `_`",
         ),
     }
 }
 
-fn print_rule<R: Eprint + AllocGlobal>(rt: &R, error: &Error) {
-    if let ErrorKind::Message(rule) = &error.kind {
-        if let Ok(why) = format!(in rt.alloc(); "--markers: {rule}") {
-            return print_error(rt, "tera", why.as_str());
-        }
+// The rule that markers break.
+fn rule_of(alloc: Global, error: &Error) -> Result<String, AllocError> {
+    match &error.kind {
+        ErrorKind::Message(rule) => format!(in alloc; "{rule}"),
+        _ => Err(AllocError),
     }
-    print_error(rt, "tera", "out of memory");
 }

@@ -43,6 +43,9 @@ With --root the names that templates extend and include are checked too: a name 
 This parser does not read floating-point numbers. Tera does: a tag that has one gets the error `Float literals are not
 supported`, and is not checked.
 
+Settings are read from the nearest `tera.toml`, beside the first FILE or in a folder above it. An option counts before
+what that file says.
+
 Examples:
   tera check templates
   tera check --root templates templates
@@ -211,6 +214,8 @@ fn tree<'a>(alloc: Global) -> Result<Command<'a>, AllocError> {
         ))?
         .arg(markers(alloc))?
         .arg(stdin_filename(alloc))?
+        .arg(config(alloc)?)?
+        .arg(no_config(alloc))?
         .arg(colour(alloc))?
         .arg(
             Arg::new(alloc, "file")
@@ -250,6 +255,8 @@ fn server<'a>(alloc: Global) -> Result<Command<'a>, AllocError> {
 fn with_files<'a>(alloc: Global, command: Command<'a>) -> Result<Command<'a>, AllocError> {
     command
         .arg(stdin_filename(alloc))?
+        .arg(config(alloc)?)?
+        .arg(no_config(alloc))?
         .arg(colour(alloc))?
         .arg(quiet(alloc))?
         .arg(extension(alloc))?
@@ -315,6 +322,20 @@ fn stdin_filename<'a>(alloc: Global) -> Arg<'a> {
         "NAME",
         "Name of the file that standard input stands for",
     )
+}
+
+fn config<'a>(alloc: Global) -> Result<Arg<'a>, AllocError> {
+    option(
+        alloc,
+        "config",
+        "FILE",
+        "File of settings, instead of the nearest `tera.toml`",
+    )
+    .conflicts_with("no-config")
+}
+
+fn no_config<'a>(alloc: Global) -> Arg<'a> {
+    flag(alloc, "no-config", "Read no file of settings")
 }
 
 fn colour<'a>(alloc: Global) -> Arg<'a> {

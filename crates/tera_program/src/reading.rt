@@ -5,6 +5,7 @@ ghost use Rattle.tera_lexer.specs.grammar.Marks.{IsValid, marks_of};
 ghost use Rattle.terminal_text.specs.Files.{source_of};
 ghost use Rattle.tera_program.specs.Sources.{AddsRead, AddsUnread, IsReadFrom, marks_in, nothing, with_source, with_sources};
 
+use crate::excluded::leave_out;
 use crate::job::Common;
 use crate::options::EXTENSIONS;
 use crate::output::{print_error, why_unread};
@@ -102,7 +103,7 @@ pub(crate) fn name_of<'a>(file: &'a str, stdin: &'a str) -> &'a str {
     if file == "-" { stdin } else { file }
 }
 
-/// The files that the paths mean.
+/// The files that the paths mean, without those that are left out.
 pub(crate) fn found<R: Files + AllocGlobal + Clone + Drop>(
     rt: &R,
     common: Common<'_, '_>,
@@ -113,7 +114,11 @@ pub(crate) fn found<R: Files + AllocGlobal + Clone + Drop>(
         extensions: extensions.as_slice(),
         stdin: common.stdin,
     };
-    files_of(rt, selection, paths)
+    let found = files_of(rt, selection, paths)?;
+    match common.exclude {
+        Some(exclude) => leave_out(rt, exclude, found),
+        None => Ok(found),
+    }
 }
 
 // How the names of templates end, without the point.

@@ -1,7 +1,7 @@
 //! Which findings are reported.
 
 ghost use Rattle.std.specs.Prelude.{◌≡◌, filter};
-ghost use Rattle.tera_program.specs.Rules.{AreReportedOf, has_rule, is_on, is_reported};
+ghost use Rattle.tera_program.specs.Rules.{AreReportedOf, has_rule, is_on, is_reported, is_selected};
 
 use tera_check::{Finding, Found, Kind};
 
@@ -12,6 +12,8 @@ pub(crate) struct Rules<'b, 'a> {
     pub(crate) select: Option<&'b [&'a str]>,
     /// All but these.
     pub(crate) ignore: Option<&'b [&'a str]>,
+    /// All but these, if `select` is not given.
+    pub(crate) off: Option<&'b [&'a str]>,
 }
 
 impl<'b, 'a> Rules<'b, 'a> {
@@ -20,7 +22,17 @@ impl<'b, 'a> Rules<'b, 'a> {
         ensures { result ≡ is_on self.entry kind }
     {
         matches!(kind, Kind::Fault)
-            || (has_rule(self.select, kind, true) && !has_rule(self.ignore, kind, false))
+            || (self.is_selected(kind) && !has_rule(self.ignore, kind, false))
+    }
+
+    // What is selected on the command line counts, whatever is off.
+    fn is_selected(self, kind: Kind) -> bool
+        ensures { result ≡ is_selected self.entry kind }
+    {
+        match self.select {
+            Some(_) => has_rule(self.select, kind, true),
+            None => !has_rule(self.off, kind, false),
+        }
     }
 }
 
