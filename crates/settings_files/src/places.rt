@@ -14,14 +14,20 @@ use std::{fs, io};
 /// Where the paths of a file of settings lead. Something is at each of them.
 #[derive(Debug, Drop)]
 pub struct Places {
-    /// The libraries, and after them the root, if one is set: from the folder in which the program runs.
+    /// The folder with the templates of the site, if one is set: from the folder in which the program runs.
+    pub root: Option<String>,
+    /// The libraries, from there too.
     pub libraries: Vec<String>,
     /// What is left out, by the paths by which the system knows it.
     pub exclude: Vec<String>,
 }
 
-/// Where the paths of the file lead. It is an error if nothing is there.
+/// Where the paths of the file lead. It is an error if nothing is there, or no folder at the root.
 pub fn places_of<R: Files + AllocGlobal>(rt: &R, file: &Configured) -> Result<Places, Unfit> {
+    let root = match &file.settings.root {
+        Some(root) => Some(folder_there(rt, file, "root", root.as_str())?),
+        None => None,
+    };
     let mut libraries = Vec::new(rt.alloc());
     push_paths(
         rt,
@@ -30,16 +36,17 @@ pub fn places_of<R: Files + AllocGlobal>(rt: &R, file: &Configured) -> Result<Pl
         &file.settings.libraries,
         &mut libraries,
     )?;
-    if let Some(root) = &file.settings.root {
-        libraries.push(path_there(rt, file, "root", root.as_str())?)?;
-    }
     let mut exclude = Vec::new(rt.alloc());
     if let Some(paths) = &file.settings.exclude {
         for path in paths {
             exclude.push(known_path(rt, file, "exclude", path.as_str())?)?;
         }
     }
-    Ok(Places { libraries, exclude })
+    Ok(Places {
+        root,
+        libraries,
+        exclude,
+    })
 }
 
 fn push_paths<R: Files + AllocGlobal>(
@@ -68,6 +75,24 @@ fn path_there<R: Files + AllocGlobal>(
     let there = path_from(rt.alloc(), file.source.file.as_str(), path)?;
     match fs::metadata(rt, there.as_str()) {
         Ok(_) => Ok(there),
+        Err(error) => Err(absent(rt.alloc(), file, key, path, error)),
+    }
+}
+
+// The same of a folder.
+fn folder_there<R: Files + AllocGlobal>(
+    rt: &R,
+    file: &Configured,
+    key: &str,
+    path: &str,
+) -> Result<String, Unfit> {
+    let there = path_from(rt.alloc(), file.source.file.as_str(), path)?;
+    match fs::metadata(rt, there.as_str()) {
+        Ok(data) if data.is_dir() => Ok(there),
+        Ok(_) => {
+            let message = format!(in rt.alloc(); "`{key}`: {path}: expected a folder")?;
+            Err(file.wrong(rt.alloc(), None, key, message))
+        }
         Err(error) => Err(absent(rt.alloc(), file, key, path, error)),
     }
 }

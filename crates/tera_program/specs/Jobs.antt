@@ -109,7 +109,7 @@ rules_with d r = record { select = r.select; ignore = r.ignore; off = lists_view
 -- A job with settings: what no option says is as they say.
 abbrev pub with_defaults : Defaults → JobVal → JobVal
 with_defaults d (Checks form library root faults rules strict markers files common) =
-    Checks form (option_or library (lists_view d.library)) root faults (rules_with d rules) strict (option_or markers (text_view d.markers)) files (common_with d common)
+    Checks form (option_or library (lists_view d.library)) (option_or root (text_view d.root)) faults (rules_with d rules) strict (option_or markers (text_view d.markers)) files (common_with d common)
 with_defaults d (Shows json faulty markers file common) = Shows json faulty (option_or markers (text_view d.markers)) file common
 with_defaults d (Lists html markers files common) = Lists html (option_or markers (text_view d.markers)) files (common_with d common)
 with_defaults d (LaysOut mode markers files common) = LaysOut mode (option_or markers (text_view d.markers)) files (common_with d common)

@@ -19,6 +19,7 @@ use Rattle.tera_program.specs.declared.settings.Words.{Words}
 -- ---- what a file says, in the forms that it has on its way to a job
 
 pub record SiteVal : Type 0 where
+  pub root : Option (List ℕ)
   pub extensions : Option (List (List ℕ))
   pub exclude : Option (List (List ℕ))
   pub library : Option (List (List ℕ))
@@ -27,6 +28,7 @@ pub record SiteVal : Type 0 where
 
 abbrev pub site_val : Site → SiteVal
 site_val s = record {
+  root = text_view s.root;
   extensions = texts_view s.extensions;
   exclude = texts_view s.exclude;
   library = texts_view s.library;
@@ -39,6 +41,7 @@ words_view = option_map (λ v. texts v.items)
 
 abbrev pub words_val : Words → SiteVal
 words_val w = record {
+  root = option_map (λ t. t.now) w.root;
   extensions = words_view w.extensions;
   exclude = words_view w.exclude;
   library = words_view w.library;
@@ -48,6 +51,7 @@ words_val w = record {
 
 abbrev pub defaults_val : Defaults → SiteVal
 defaults_val d = record {
+  root = option_map (λ t. t.now) d.root;
   extensions = lists_view d.extensions;
   exclude = lists_view d.exclude;
   library = lists_view d.library;

@@ -41,6 +41,7 @@ pub(crate) struct Common<'b, 'a> {
 /// What a file of settings says. It counts where no option says otherwise.
 #[derive(Clone, Copy, Debug)]
 pub(crate) struct Defaults<'b, 'a> {
+    pub(crate) root: Option<&'a str>,
     pub(crate) extensions: Option<&'b [&'a str]>,
     pub(crate) exclude: Option<&'b [&'a str]>,
     pub(crate) library: Option<&'b [&'a str]>,
@@ -178,6 +179,7 @@ impl<'b, 'a> Check<'b, 'a> {
     {
         Check {
             library: self.library.or(defaults.library),
+            root: self.root.or(defaults.root),
             rules: Rules {
                 off: defaults.off,
                 ..self.rules

@@ -24,6 +24,7 @@ use tera_settings::{Level, RuleLevel, Settings};
 /// What a file of settings says. All is absent if there is none.
 #[derive(Drop)]
 pub(crate) struct Site {
+    root: Option<String>,
     extensions: Option<Vec<String>>,
     exclude: Option<Vec<String>>,
     library: Option<Vec<String>>,
@@ -34,6 +35,7 @@ pub(crate) struct Site {
 /// The same, as the options of a job have it.
 #[derive(Drop)]
 pub(crate) struct Words<'s> {
+    root: Option<&'s str>,
     extensions: Option<Vec<&'s str>>,
     exclude: Option<Vec<&'s str>>,
     library: Option<Vec<&'s str>>,
@@ -44,6 +46,7 @@ pub(crate) struct Words<'s> {
 impl Site {
     fn none() -> Site {
         Site {
+            root: None,
             extensions: None,
             exclude: None,
             library: None,
@@ -56,6 +59,7 @@ impl Site {
         ensures { IfOk result (λ words. words_val words ≡ site_val self.now) }
     {
         Ok(Words {
+            root: word_of(&self.root),
             extensions: words_of(alloc, &self.extensions)?,
             exclude: words_of(alloc, &self.exclude)?,
             library: words_of(alloc, &self.library)?,
@@ -70,6 +74,7 @@ impl<'s> Words<'s> {
         ensures { defaults_val result ≡ words_val self.now }
     {
         Defaults {
+            root: self.root,
             extensions: slice_of(&self.extensions),
             exclude: slice_of(&self.exclude),
             library: slice_of(&self.library),
@@ -174,7 +179,11 @@ fn site_in<R: Files + AllocGlobal>(
     check_markers(rt.alloc(), is_laid_out, &file)?;
     let places = places_of(rt, &file)?;
     let off = off_of(rt.alloc(), file.settings.rules.as_slice())?;
-    let Places { libraries, exclude } = places;
+    let Places {
+        root,
+        libraries,
+        exclude,
+    } = places;
     let Configured {
         source: _,
         settings,
@@ -185,6 +194,7 @@ fn site_in<R: Files + AllocGlobal>(
         ..
     } = settings;
     Ok(Site {
+        root,
         extensions,
         exclude: if_any(exclude),
         library: if_any(libraries),
