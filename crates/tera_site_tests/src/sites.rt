@@ -76,7 +76,8 @@ struct Read {
     templates: Vec<Template>,
 }
 
-fn read(alloc: Global) -> Result<Read, AllocError> {
+// The planted site.
+fn planted(alloc: Global) -> Result<Read, AllocError> {
     let mut names = Vec::new(alloc);
     let mut templates = Vec::new(alloc);
     for (name, source) in &PLANTED {
@@ -106,7 +107,7 @@ fn found_in(alloc: Global, read: &Read, checked: usize) -> Result<String, AllocE
 
 #[test]
 fn a_planted_site_has_these_findings(rt: HostRuntime) -> Result<(), Fail> {
-    let read = read(rt.alloc())?;
+    let read = planted(rt.alloc())?;
     let lines = found_in(rt.alloc(), &read, PLANTED.len())?;
     assert_eq!(&rt; lines.as_str(), FOUND);
     Ok(())
@@ -114,7 +115,7 @@ fn a_planted_site_has_these_findings(rt: HostRuntime) -> Result<(), Fail> {
 
 #[test]
 fn templates_that_are_not_checked_have_none(rt: HostRuntime) -> Result<(), Fail> {
-    let read = read(rt.alloc())?;
+    let read = planted(rt.alloc())?;
     let lines = found_in(rt.alloc(), &read, 2)?;
     assert_eq!(&rt; lines.as_str(), "");
     Ok(())
@@ -122,7 +123,7 @@ fn templates_that_are_not_checked_have_none(rt: HostRuntime) -> Result<(), Fail>
 
 #[test]
 fn parents_and_includes_are_used(rt: HostRuntime) -> Result<(), Fail> {
-    let read = read(rt.alloc())?;
+    let read = planted(rt.alloc())?;
     let used = used_names(rt.alloc(), &read.templates)?;
     assert!(rt; used.contains(&"nowhere"));
     assert!(rt; used.contains(&"absent"));
