@@ -1,5 +1,5 @@
 -- From the tokens of a whole source to what `parse` promises.
-use Rattle.std.proofs.Common.{◌≡◌, ℕ, ◌≤◌, false, List, [], ◌∷◌, ◌++◌, ⊎_elim, subst, sym, refl}
+use Rattle.std.proofs.Common.{◌≡◌, ◌∙◌, ℕ, ◌≤◌, false, List, [], ◌∷◌, ◌++◌, ⊎_elim, subst, sym, refl}
 use Rattle.std.specs.Prelude.{◌⊎◌}
 use Rattle.std.specs.List.{AllByRecursion}
 use Rattle.tera_base.specs.ErrorView.{NoteOf, NoteVal, error_view}
