@@ -43,7 +43,7 @@ ghost use Rattle.std.specs.Prelude.{◌≤◌};
 use crate::job::Job;
 use crate::options::command;
 use crate::output::{print_error, print_stopped};
-use crate::settings::{print_unset, site_of};
+use crate::settings::{Words, print_unset, site_of};
 use crate::status::{Ended, status_of};
 use clap::Error;
 pub use colours::Terminals;
@@ -149,12 +149,22 @@ fn run_configured<R: Files + Env + Input + Print + Eprint + AllocGlobal + Clone 
         }
     };
     match site.words(rt.alloc()) {
-        Ok(words) => run_job(rt, terminals, job.with(words.defaults())),
+        Ok(words) => run_with(rt, terminals, job, &words),
         Err(_) => {
             print_error(rt, "tera", "out of memory");
             Ended::failed()
         }
     }
+}
+
+// Both have the same lifetimes here, and so have what they are made into.
+fn run_with<'w, 's, R: Files + Env + Input + Print + Eprint + AllocGlobal + Clone + Drop>(
+    rt: &R,
+    terminals: Terminals,
+    job: Job<'w, 's>,
+    words: &'w Words<'s>,
+) -> Ended {
+    run_job(rt, terminals, job.with(words.defaults()))
 }
 
 fn run_job<R: Files + Env + Input + Print + Eprint + AllocGlobal + Clone + Drop>(
