@@ -10,7 +10,7 @@ use Rattle.tera_base.specs.declared.errors.ErrorKind.TheVariants.{Memory, Messag
 use Rattle.tera_base.specs.declared.utils.Span.{Span}
 use Rattle.tera_lexer.specs.code.Cursors.{IsLater, Passes, Position, ReportsAt}
 use Rattle.tera_lexer.specs.grammar.Faults.{IsFaultOf}
-use Rattle.tera_lexer.specs.grammar.Tokens.{Tok, Items, Ended, Failed, Token}
+use Rattle.tera_lexer.specs.grammar.Tokens.{Items, Ended, Failed, Token}
 use Rattle.tera_grammar.specs.expressions.Concrete.{Name, name_yield}
 use Rattle.tera_grammar.specs.expressions.Reading.Front.{taken_name}
 use Rattle.tera_grammar.specs.Reads.{found}

@@ -1,5 +1,5 @@
 -- How cursors go on, and what is refused on the way.
-use Rattle.std.proofs.Common.{IfErr, IfOk, Result, Ok, Err, ◌≡◌, ◌⊎◌, ℕ, zero, suc, ◌<◌, ◌≤◌, le_refl, Bool, true, false, Option, List, codes, inl, inr, refl, subst, sym, arith}
+use Rattle.std.proofs.Common.{IfErr, IfOk, Result, Ok, Err, ◌≡◌, ℕ, zero, suc, ◌<◌, ◌≤◌, le_refl, Bool, true, false, List, codes, inl, inr, refl, subst, sym, arith}
 use Rattle.tera_base.specs.declared.utils.Span.{Span}
 use Rattle.tera_base.specs.declared.errors.Error.{Error}
 use Rattle.tera_base.specs.ErrorView.{NoteOf, NoteVal}

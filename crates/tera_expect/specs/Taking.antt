@@ -1,6 +1,5 @@
 -- What the functions that read a part of a source answer, and how their cursor goes on.
-use Rattle.std.specs.Prelude.{◌≡◌, ◌⊎◌, ◌<◌, ◌≤◌, List, ℕ, Bool, true, false, codes, Option, Some, None, Result, Ok, Err, String, string_bytes}
-use Rattle.std.specs.declared.alloc.Global.{Global}
+use Rattle.std.specs.Prelude.{◌≡◌, ◌⊎◌, ◌<◌, ◌≤◌, List, ℕ, Bool, true, false, codes, Option, Some, None, Result, Ok, Err, string_bytes}
 use Rattle.std.specs.Borrow.{Bor}
 use Rattle.tera_base.specs.ErrorView.{ErrorVal, NoMemory, NoteVal, Reporting, Saying, error_view, with_note}
 use Rattle.tera_base.specs.Errors.{IsMemory, ReportsBy}
@@ -31,8 +30,8 @@ GoesOn old new = IsLater old new × (size new.left ≤ size old.left)
 unfoldable pub Took : Position → Position → Type 0
 Took old new = IsLater old new × (size new.left < size old.left)
 
--- The range of an error goes up to the end of the token that a cursor took last, or further; or it is that of the fault in
--- which the tokens end.
+-- The range of an error ends where the token ends that the cursor took last, or after it. Or it is the range of the
+-- lexical fault in which the tokens end.
 abbrev pub Reaches : Position → Position → Error → Type 0
 Reaches old new e =
     (IsLater old new × ReportsBy (λ text span. new.span.range.end ≤ span.range.end) e) ⊎ ReportsBy (λ text span. IsFaultOf old.left text span) e

@@ -1,13 +1,11 @@
 -- A variable alone, after which a tag ends.
-use Rattle.std.proofs.Common.{◌≡◌, ℕ, suc, ◌≤◌, ◌-◌, Bool, false, List, refl, sym, ap, subst, ◌∙◌, arith}
+use Rattle.std.proofs.Common.{◌≡◌, ℕ, suc, ◌≤◌, ◌-◌, Bool, List, refl, sym, ap, subst, ◌∙◌, arith}
 use Rattle.tera_base.specs.declared.utils.Span.{Span}
 use Rattle.tera_lexer.specs.declared.lexer.delimiters.Kind.{Kind}
-use Rattle.tera_lexer.specs.code.Cursors.{SecondIs}
 use Rattle.tera_lexer.specs.grammar.Tokens.{Finish, Ident, Items, Tok, Token}
 use Rattle.tera_ast.specs.Tree as tree
 use Rattle.tera_grammar.specs.Reads.{found}
 use Rattle.tera_grammar.specs.Limits.{Limits}
-use Rattle.tera_grammar.specs.Words.{is_none, is_not}
 use Rattle.tera_grammar.specs.expressions.Concrete.{Atomic, Chain, Tree, no_links}
 use Rattle.tera_grammar.specs.expressions.Reading.Front.{front_of_token, link_of, skip}
 use Rattle.tera_grammar.specs.expressions.Reading.Bracketed.{links_by, links_of}

@@ -27,7 +27,7 @@ use Rattle.tera_grammar.specs.expressions.Marks.{Mark, mark, mark_token, Assign,
 use Rattle.tera_grammar.specs.expressions.Operators.{Minus}
 use Rattle.tera_grammar.specs.expressions.Reading.Front.{begins, literal_of, same_token, takes, taken_name}
 use Rattle.tera_grammar.proofs.stops.Fronts.{bound, found_same, takes_ok}
-use Rattle.tera_grammar.specs.statements.Components.{Annotation, Assigned, Default, LiteralDefault, MinusDefault, NothingDefault, ArrayDefault, MapDefault, Parameter, Parameters, Closed, Rest, Final, argument_of, default_has_type, is_body, is_known, type_of_argument}
+use Rattle.tera_grammar.specs.statements.Components.{Annotation, Assigned, Default, LiteralDefault, MinusDefault, NothingDefault, ArrayDefault, MapDefault, Parameter, Parameters, Closed, Rest, Final, argument_of, is_body, is_known, type_of_argument}
 use Rattle.tera_grammar.specs.statements.Components as components
 use Rattle.tera_grammar.specs.statements.Expressions.{Limits}
 use Rattle.tera_grammar.specs.statements.Reading.Expressions.{array_of, map_of}

@@ -27,7 +27,7 @@ use Rattle.tera_statements.specs.Kinds.{kind_of}
 use Rattle.tera_expect.specs.Taking.{GoesOn, Refuses, RefusesIn, Took}
 use Rattle.tera_statements.specs.declared.fronts.Front.{Front}
 use Rattle.tera_statements.specs.declared.fronts.Front.TheVariants as fronts
-use Rattle.tera_statements.specs.declared.fronts.Front.TheVariants.{Ends, Closes, Holds, Shows, Opens, Wrong}
+use Rattle.tera_statements.specs.declared.fronts.Front.TheVariants.{Ends, Holds, Wrong}
 use Rattle.tera_expect.proofs.NotesLemmas.{notes_later, notes_memory}
 use Rattle.tera_expect.proofs.TakingLemmas.{reaches_later, reaches_memory, refused_further, untaken_notes, untaken_reaches}
 

@@ -1,4 +1,4 @@
--- Where reading stops that knows nothing of what is there.
+-- Where reading stops at tokens that begin no text, no variable and no known tag.
 use Rattle.std.proofs.Common.{◌≡◌, Bool, IfErr, IfOk, Result, Ok, Err, inl, inr, refl, ap, ◌∙◌}
 use Rattle.tera_base.specs.declared.errors.Error.{Error}
 use Rattle.tera_base.specs.declared.utils.Span.{Span}

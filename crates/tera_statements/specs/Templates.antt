@@ -58,7 +58,7 @@ top_depth l = l.bodies - 1
 abbrev pub TopOf : Limits → Items → Place → Output → reading.Phase → Type 0
 TopOf l ts here out ph = Topping l (top_depth l) (at nothing_seen ts) here out ph
 
--- of tokens of which so much has been read, the reading of a template stops where these are left
+-- Wherever so much of a template's tokens has been read, the reading of the template stops with these tokens left.
 abbrev pub Excludes : Limits → Place → reading.Phase → Items → Type 0
 Excludes l here ph left = (ts : Items) (out : Output) → TopOf l ts here out ph → StopsAt (template l ts) left
 
@@ -108,8 +108,8 @@ abbrev pub GivesTemplate : Limits → Result (ParserOutput × Names) Error → I
 GivesTemplate l (Ok t) items = (b : Body) × IsTemplate l items b × (output_view t.0 ≡ output_of b) × AreNames t.1 (places b)
 GivesTemplate l (Err e) items = IsMemory e ⊎ ((b : Body) → IsTemplate l items b → ⊥)
 
--- A template is refused where reading stops, with the tokens that a cursor has left there, and in the tokens that it began
--- with.
+-- A template is refused where its reading stops: the cursor has the same tokens left, and the error is reported in the
+-- tokens that the cursor began with.
 abbrev pub RefusesTemplate : Limits → Position → Error → Type 0
 RefusesTemplate l old e = (new : Position) × Fails (template l old.left) new.left e × RefusesIn old new e
 
