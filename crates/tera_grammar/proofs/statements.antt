@@ -18,3 +18,4 @@ mod Examples
 pub mod Numbers
 pub mod Phases
 pub mod Loops
+pub mod Defined

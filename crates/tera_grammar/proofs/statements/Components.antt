@@ -49,13 +49,13 @@ parameter_size : (p : Parameter) (rest : Items) → size rest ≤ size (paramete
 parameter_size p rest =
     omega (arith, assigned_size p.default rest, annotation_size p.type (if_any assigned_yield p.default rest), at_size p.at (name_yield p.name (if_any annotation_yield p.type (if_any assigned_yield p.default rest))))
 
-parameters_size : (ps : Parameters) (rest : Items) → size rest ≤ size (parameters_yield ps rest)
+pub parameters_size : (ps : Parameters) (rest : Items) → size rest ≤ size (parameters_yield ps rest)
 parameters_size (Closed end) rest = omega arith
 parameters_size (Rest dots n end) rest = omega arith
 parameters_size (Final p end) rest = omega (arith, parameter_size p (mark RightParen end rest))
 parameters_size (More p comma ps) rest = omega (arith, parameters_size ps rest, parameter_size p (mark Comma comma (parameters_yield ps rest)))
 
-metadata_size : (m : Option LiteralMap) (rest : Items) → size rest ≤ size (if_any map_yield m rest)
+pub metadata_size : (m : Option LiteralMap) (rest : Items) → size rest ≤ size (if_any map_yield m rest)
 metadata_size None rest = le_refl _
 metadata_size (Some m) rest = map_size m rest
 

@@ -1,11 +1,12 @@
 -- What is read of statements is what the plain reading reads, as in `Forget`.
-use Rattle.std.proofs.Common.{◌≡◌, ℕ, zero, suc, Bool, not, [], ◌∷◌, Option, Some, None, refl, ap, ◌∙◌}
+use Rattle.std.proofs.Common.{◌≡◌, ℕ, zero, suc, Bool, not, [], ◌∷◌, Option, Some, None, refl, sym, ap, ◌∙◌}
 use Rattle.std.specs.Str.{bytes_eq}
 use Rattle.tera_base.specs.declared.utils.Span.{Span}
 use Rattle.tera_lexer.specs.code.Cursors.{size, is_end}
 use Rattle.tera_lexer.specs.grammar.Tokens.{Items, Ended, Failed, Token}
 use Rattle.tera_grammar.specs.Options.{◌>>=◌, guard}
 use Rattle.tera_grammar.specs.Limits.{Limits}
+use Rattle.tera_grammar.specs.expressions.Concrete.{Quote}
 use Rattle.tera_grammar.specs.expressions.Operators.{GreaterThan}
 use Rattle.tera_grammar.specs.expressions.Marks.{Assign, Operation}
 use Rattle.tera_grammar.specs.statements.Names.{agrees}
@@ -219,6 +220,40 @@ module _ (l : Limits) where
   unfolding full_body plain_body
   body_forget zero path p = refl
   body_forget (suc d) path p = items_forget (full_body d l) (plain_body d l) (body_forget d) path p
+
+  -- an item that the top level finds
+  abbrev back : Read (Option Item × Place) → Option (Option (Item × Place))
+  back (found (Some i, p)) = Some (Some (i, p))
+  back (found (None, p)) = Some None
+  back (stopped z) = None
+
+  none_some : (x : Item × Place) → None ≡ Some (Some x) → ⊥
+  none_some x e = cc
+
+  some_none : (x : Item × Place) → Some None ≡ Some (Some x) → ⊥
+  some_none x e = cc
+
+  back_found : (o : full_Reads Item) (q : plain_Reads Item) (x : Item × Place) → forget o ≡ q → bind {A = Item × Place} {B = Option Item × Place} o (λ y. found (Some y.0, y.1)) ≡ found (Some x.0, x.1)
+      → (q >>= λ y. Some (Some y)) ≡ Some (Some x)
+  back_found (found y) q x is h = ap (λ q. q >>= λ y. Some (Some y)) (sym is) ∙ ap back h
+  back_found (stopped z) q x is h = absurd (none_some x (ap back h))
+
+  late_found : (o : Takes (Quote × Span)) (x : Item × Place) → bind {A = Item × Place} {B = Option Item × Place} (bind o (λ q. stopped q.1)) (λ y. found (Some y.0, y.1)) ≡ found (Some x.0, x.1) → ⊥
+  late_found (found q) x h = cc
+  late_found (stopped z) x h = cc
+
+  pub top_found : (d : ℕ) (phase : Phase) (seen : Seen) (ts : Items) (fr : Front) (x : Item × Place) → full_top_step l (full_body d l) phase seen ts fr ≡ found (Some x.0, x.1)
+      → plain_step l (plain_body d l) [] seen fr ≡ Some (Some x)
+  unfolding full_top_step full_step plain_step
+  top_found d phase seen ts Ends x h = absurd (some_none x (ap back h))
+  top_found d phase seen ts (Closes c start first us) x h = absurd (some_none x (ap back h))
+  top_found d phase seen ts (Holds text s us) x h = ap back h
+  top_found d phase seen ts (Shows start us) x h = back_found _ _ x (shown_forget [] start seen us) h
+  top_found d Starting seen ts (Opens OpensExtends start first us) x h = back_found _ _ x (extends_forget [] start first seen us) h
+  top_found d Standalone seen ts (Opens OpensExtends start first us) x h = absurd (late_found _ x h)
+  top_found d Extending seen ts (Opens OpensExtends start first us) x h = absurd (late_found _ x h)
+  top_found d phase seen ts (Opens o start first us) x h = back_found _ _ x (tag_forget (full_body d l) (plain_body d l) (body_forget d) [] o start first seen us) h
+  top_found d phase seen ts Wrong x h = cc
 
   pub top_forget : (d : ℕ) (p : Place) → forget (full_top d l p) ≡ plain_top d l p
   unfolding full_top plain_top
