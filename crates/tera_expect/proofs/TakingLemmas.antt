@@ -17,9 +17,9 @@ use Rattle.tera_lexer.specs.declared.lexer.tokens.Token.{Token as Lexed}
 use Rattle.tera_lexer.specs.code.Cursors.{Position, ReportsAt, FaultsFrom, IsLater, Passes, RefusesFrom, TakesOne, size}
 use Rattle.tera_lexer.proofs.FaultsOfTokens as refusals
 use Rattle.tera_grammar.specs.Reads.{Takes}
-use Rattle.tera_expect.specs.Notes.{IsFirst, IsOther, AreFirst, Repeats}
+use Rattle.tera_expect.specs.Notes.{IsFirst, AreFirst, Repeats}
 use Rattle.tera_expect.specs.Taking.{Eats, GoesOn, IsCounted, IsNoted, Took, Reaches, Refuses, Reported, no_memory, says, reports, kind_reported, ReportsAs}
-use Rattle.tera_expect.proofs.NotesLemmas.{notes_later, notes_memory, notes_none, notes_noted, notes_other, other_label, reported_first}
+use Rattle.tera_expect.proofs.NotesLemmas.{notes_later, notes_memory, notes_none, notes_noted, other_label, reported_first}
 
 pub goes_further : (old mid new : Position) → GoesOn old mid → GoesOn mid new → GoesOn old new
 unfolding GoesOn
@@ -120,12 +120,12 @@ token_refused old new t s e taken last within later reported none = (
 -- no token was taken: the end of the input, the fault in which the tokens end, or an allocation that failed
 stopped_fault : (source : List ℕ) (items : Items) (e : Error) → Stops source items e → ReportsBy (λ text span. IsFaultOf items text span) e
 stopped_fault source Ended e stops = absurd stops
-stopped_fault source (Failed reported here) e (within, there) =
+stopped_fault source (Failed reported here) e (within, (there, none)) =
     reports_weaker (λ text span. (text ≡ reported) × (span ≡ here)) (λ text span. IsFaultOf (Failed reported here) text span) e (λ text span at. at) there
 stopped_fault source (Token t here items) e (takes, memory) = reports_memory (λ text span. IsFaultOf (Token t here items) text span) e memory
 
 pub untaken_reaches : (old new : Position) (e : Error) → TakesOne old (Err e) new → Reaches old new e
-untaken_reaches old new e (inl (ended, reported, same)) =
+untaken_reaches old new e (inl (ended, (reported, none), same)) =
     inl (
       subst (IsLater old) (sym same) (refusals.stays_later old),
       reports_weaker (λ text span. (text ≡ codes "Unexpected end of input") × (span ≡ end_of old.span)) (λ text span. new.span.range.end ≤ span.range.end) e
@@ -134,14 +134,14 @@ untaken_reaches old new e (inl (ended, reported, same)) =
     )
 untaken_reaches old new e (inr (unseen, stops, same)) = inr (stopped_fault old.source old.left e stops)
 
+stopped_notes : (source : List ℕ) (items mid : Items) (e : Error) → Stops source items e → AreFirst mid e
+stopped_notes source Ended mid e stops = absurd stops
+stopped_notes source (Failed reported here) mid e (within, (there, none)) = notes_none mid e none
+stopped_notes source (Token t here items) mid e (takes, memory) = notes_memory mid e memory
+
 pub untaken_notes : (old new : Position) (e : Error) → TakesOne old (Err e) new → AreFirst old.left e
-untaken_notes old new e (inl (ended, reported, same)) =
-    notes_other old.left e
-    (reports_weaker (λ text span. (text ≡ codes "Unexpected end of input") × (span ≡ end_of old.span)) (λ text span. IsOther old.left text span) e (λ text span at. inr (inl at.0)) reported)
-untaken_notes old new e (inr (unseen, stops, same)) =
-    notes_other old.left e
-    (reports_weaker (λ text span. IsFaultOf old.left text span) (λ text span. IsOther old.left text span) e (λ text span fault. inl fault)
-    (stopped_fault old.source old.left e stops))
+untaken_notes old new e (inl (ended, (reported, none), same)) = notes_none old.left e none
+untaken_notes old new e (inr (unseen, stops, same)) = stopped_notes old.source old.left old.left e stops
 
 pub untaken_refused : (old new : Position) (e : Error) → TakesOne old (Err e) new → RefusesFrom old e → Refuses old new e
 unfolding Refuses
@@ -176,20 +176,23 @@ by_kind P (SyntaxError b) Memory e h = tt
 by_kind P (SyntaxError b) (Message s) e h = cc
 by_kind P (Message s) _ e h = absurd h
 
-same_reaches : (old new : Position) (d e : Error) → kind_reported e.kind ≡ kind_reported d.kind → Reaches old new d → Reaches old new e
-same_reaches old new d e same (inl (later, reported)) = inl (later, by_kind (λ text span. new.span.range.end ≤ span.range.end) d.kind e.kind same reported)
-same_reaches old new d e same (inr fault) = inr (by_kind (λ text span. IsFaultOf old.left text span) d.kind e.kind same fault)
+kind_reaches : (old new : Position) (d e : Error) → kind_reported e.kind ≡ kind_reported d.kind → Reaches old new d → Reaches old new e
+kind_reaches old new d e same (inl (later, reported)) = inl (later, by_kind (λ text span. new.span.range.end ≤ span.range.end) d.kind e.kind same reported)
+kind_reaches old new d e same (inr fault) = inr (by_kind (λ text span. IsFaultOf old.left text span) d.kind e.kind same fault)
+
+pub same_reaches : (old new : Position) (d e : Error) → ReportsAs d e → Reaches old new d → Reaches old new e
+same_reaches old new d e (inl memory) h = reaches_memory old new e memory
+same_reaches old new d e (inr same) h = kind_reaches old new d e same h
+
+pub same_from : (old : Position) (d e : Error) → ReportsAs d e → RefusesFrom old d → RefusesFrom old e
+same_from old d e (inl memory) h = reports_memory (λ text span. IsWithin old.source span × FaultsFrom old.span old.left text span) e memory
+same_from old d e (inr same) h = by_kind (λ text span. IsWithin old.source span × FaultsFrom old.span old.left text span) d.kind e.kind same h
 
 -- with a note more
-pub noted_refused : (old new : Position) (d e : Error) (n : NoteVal) → ReportsBy (λ text span. IsFirst old.left text span n) d → IsNoted d n e → ReportsAs d e
+pub noted_refused : (old new : Position) (d e : Error) (n : NoteVal) → ReportsBy (λ text span. IsFirst old.left span n) d → IsNoted d n e → ReportsAs d e
     → Refuses old new d → Refuses old new e
 unfolding Refuses
-noted_refused old new d e n first noted (inl memory) h = memory_refused old new e memory
-noted_refused old new d e n first noted (inr same) h = (
-  by_kind (λ text span. IsWithin old.source span × FaultsFrom old.span old.left text span) d.kind e.kind same h.0,
-  same_reaches old new d e same h.1,
-  notes_noted old.left d e n first noted h.2,
-)
+noted_refused old new d e n first noted same h = (same_from old d e same h.0, same_reaches old new d e same h.1, notes_noted old.left d e n first noted h.2)
 
 -- a note that is not on where a name is defined first
 pub other_noted : (old new : Position) (d e : Error) (label file : List ℕ) (at : Span) → (label ≡ codes "first defined here" → ⊥) → IsNoted d (NoteOf label file at) e → ReportsAs d e

@@ -19,8 +19,8 @@ use Rattle.tera_lexer.specs.reading.Stream.{Stream}
 use Rattle.tera_lexer.specs.code.Seen.{seen}
 use Rattle.tera_lexer.specs.code.Found.{IsTokenAt, IsEscapedAt, IsFaultAt}
 use Rattle.tera_lexer.specs.code.Markers.{marker_len, IsStartOf, IsEndOf, OpensBy, IsRawEndOf}
-use Rattle.tera_lexer.specs.code.Steps.{IsPart, IsIn, Stops, Steps}
-use Rattle.tera_base.specs.Errors.{IsMemory, Reports}
+use Rattle.tera_lexer.specs.code.Steps.{IsPart, IsIn, ReportsAlone, Stops, Steps}
+use Rattle.tera_base.specs.Errors.{IsMemory}
 use Rattle.tera_base.specs.declared.utils.Span.{Span}
 use Rattle.tera_base.specs.declared.errors.Error.{Error}
 use Rattle.tera_lexer.specs.declared.lexer.delimiters.Kind.{Kind}
@@ -102,7 +102,7 @@ module _ (r new : Progress) (going : r.failed ≡ false) where
         = going_stream r going ∙ (λ i. record { source = whole_of r; left = (is ∙ (λ j. toks.Token (seen t) (sym spans j) (left_in r.marks tag (r.front ++ bytes) trim following))) i; stopped = None }) in
         steps_same _ _ _ _ (Some (Ok (t, span))) here stream (refl, refl, (within, subst (IsIn (seen t)) (sym slice) sound))
 
-    pub reported_fault : (e : Error) (text : List ℕ) → new ≡ record r { failed = true } → Reports text (span_of r.front (take n r.rest)) e → IsWithin (whole_of r) (span_of r.front (take n r.rest))
+    pub reported_fault : (e : Error) (text : List ℕ) → new ≡ record r { failed = true } → ReportsAlone text (span_of r.front (take n r.rest)) e → IsWithin (whole_of r) (span_of r.front (take n r.rest))
         → ahead_of r ≡ Failed text (span_of r.front bytes) → Steps (stream_of r) (Some (Err e)) (stream_of new)
     reported_fault e text new_is reports within is =
         let front : take n r.rest ≡ bytes = cut_front r.rest bytes following n splits len in
@@ -178,7 +178,7 @@ module _ (r : Progress) (going : r.failed ≡ false) (outside : r.tag ≡ None) 
         (comment_left r.marks valid r.front r.trim dash inside rest r.rest after_comment starts.0 sound.0 sound.1))
 
     pub open_comment_step : (new : Progress) (e : Error) (n : ℕ) → find_marker r.marks.comment_end after_comment ≡ None → n ≡ marker_len r.marks.comment_start dash
-        → new ≡ record r { failed = true } → Reports (open_comment r.marks) (span_of r.front (take n r.rest)) e → IsWithin (whole_of r) (span_of r.front (take n r.rest)) → Steps (stream_of r) (Some (Err e)) (stream_of new)
+        → new ≡ record r { failed = true } → ReportsAlone (open_comment r.marks) (span_of r.front (take n r.rest)) e → IsWithin (whole_of r) (span_of r.front (take n r.rest)) → Steps (stream_of r) (Some (Err e)) (stream_of new)
     open_comment_step new e n none n_is new_is reports within =
         let sound : IsMarkerAt r.marks.comment_end after_comment None = subst (IsMarkerAt r.marks.comment_end after_comment) none (find_sound r.marks.comment_end after_comment) in
         reported_fault r new going n (r.marks.comment_start ++ dash_bytes dash) after_comment (start_splits r.marks.comment_start r.rest after_comment dash starts.0) (start_len r.marks.comment_start dash n n_is) e (open_comment r.marks) new_is reports within
@@ -209,7 +209,7 @@ module _ (r : Progress) (going : r.failed ≡ false) (outside : r.tag ≡ None) 
         (omega (arith, opens.2.2, length-append start tag, length-append r.marks.block_start (dash_bytes dash)))
 
     pub open_raw_step : (new : Progress) (e : Error) (n : ℕ) → raw_end r.marks.block_start r.marks.block_end false raw_inside ≡ None → n ≡ marker_len r.marks.block_start dash
-        → new ≡ record r { failed = true } → Reports open_raw (span_of r.front (take n r.rest)) e → IsWithin (whole_of r) (span_of r.front (take n r.rest)) → Steps (stream_of r) (Some (Err e)) (stream_of new)
+        → new ≡ record r { failed = true } → ReportsAlone open_raw (span_of r.front (take n r.rest)) e → IsWithin (whole_of r) (span_of r.front (take n r.rest)) → Steps (stream_of r) (Some (Err e)) (stream_of new)
     unfolding IsEndAt
     open_raw_step new e n none n_is new_is reports within =
         let is : IsEndAt r.marks valid.block_start raw_inside None = subst (IsEndAt r.marks valid.block_start raw_inside) none (raw_sound r.marks valid.block_start (suc (length raw_inside)) raw_inside (omega arith)) in
@@ -325,7 +325,7 @@ module _ (r : Progress) (going : r.failed ≡ false) (kind : Kind) (inside : r.t
       escaped_memory new e within_quotes n (Breaks fault) front_is found new_is memory = absurd found
 
       pub fault_step : (new : Progress) (e : Error) (text : List ℕ) (n : ℕ) (front : Front) → front_of r.rest ≡ front → IsFront r.rest front → IsFaultAt text n front
-          → new ≡ record r { failed = true } → Reports text (span_of r.front (take n r.rest)) e → IsWithin (whole_of r) (span_of r.front (take n r.rest)) → Steps (stream_of r) (Some (Err e)) (stream_of new)
+          → new ≡ record r { failed = true } → ReportsAlone text (span_of r.front (take n r.rest)) e → IsWithin (whole_of r) (span_of r.front (take n r.rest)) → Steps (stream_of r) (Some (Err e)) (stream_of new)
       fault_step new e text n (Reads lexeme following) is sound found new_is reports within = absurd found
       fault_step new e text n (Breaks fault) is sound found new_is reports within =
           let (following, splits) = fault_splits fault r.rest sound in

@@ -8,7 +8,7 @@ use Rattle.tera_lexer.specs.declared.lexer.place.Place as lexer
 use Rattle.tera_lexer.specs.grammar.Marks.{default_marks}
 use Rattle.tera_lexer.specs.grammar.Place.{place_after}
 use Rattle.tera_grammar.specs.Limits.{usual}
-use Rattle.tera_parser.specs.Notes.{IsAbout, Names}
+use Rattle.tera_parser.specs.Notes.{EachNote, IsAbout}
 use Rattle.tera_mend.specs.Lone.{IsFaultOf, IsLone, IsPlaced}
 use Rattle.tera_mend.specs.Mending.{EditVal, Edits, FailsAlone, Puts}
 use Rattle.tera_mend.specs.Moved.{moved_error, moved_note}
@@ -23,7 +23,7 @@ names_moved : (file : List ℕ) (p : lexer.Place) (ns : List NoteVal) → AllByR
 names_moved file p [] all = tt
 names_moved file p (NoteOf label name span ∷ ns) all = (all.0, names_moved file p ns all.1)
 
-error_names : (file : List ℕ) (p : lexer.Place) (v : ErrorVal) → Names file v → Names file (moved_error p v)
+error_names : (file : List ℕ) (p : lexer.Place) (v : ErrorVal) → EachNote (λ span n. IsAbout file n) v → EachNote (λ span n. IsAbout file n) (moved_error p v)
 error_names file p NoMemory all = tt
 error_names file p (Saying text) all = tt
 error_names file p (Reporting (ReportOf text span notes)) all = names_moved file p notes all
@@ -40,7 +40,7 @@ placed_lone file before tag place e written (Some lone) found are placed = recor
     in_tag = found.in_tag;
     is_moved = placed.error ∙ ap (λ p. moved_error p (error_view e)) (placed.is_there front at);
   };
-  notes = subst (Names file) (sym placed.error) (error_names file placed.there (error_view e) found.notes);
+  notes = subst (EachNote (λ span n. IsAbout file n)) (sym placed.error) (error_names file placed.there (error_view e) found.notes);
   in_place = subst (AreInPlace tag) (sym placed.written) are;
   after = λ front at. placed.after front at ∙ ap (λ t. place_after ((front ++ before) ++ t)) (sym placed.written);
 }

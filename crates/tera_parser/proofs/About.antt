@@ -72,19 +72,19 @@ all_about : (P Q : NoteVal → Type 0) (file : List ℕ) (notes : List NoteVal) 
 all_about P Q file [] same all = tt
 all_about P Q file (n ∷ notes) same (one, all) = (same n one, all_about P Q file notes same all)
 
-each_about : (P Q : List ℕ → Span → NoteVal → Type 0) (file : List ℕ) (v : ErrorVal) → ((text : List ℕ) (span : Span) (n : NoteVal) → P text span n → Q text span (about file n)) → EachNote P v
+each_about : (P Q : Span → NoteVal → Type 0) (file : List ℕ) (v : ErrorVal) → ((span : Span) (n : NoteVal) → P span n → Q span (about file n)) → EachNote P v
     → EachNote Q (error_about file v)
 each_about P Q file NoMemory same all = tt
 each_about P Q file (Saying text) same all = tt
-each_about P Q file (Reporting (ReportOf text span notes)) same all = all_about (P text span) (Q text span) file notes (same text span) all
+each_about P Q file (Reporting (ReportOf text span notes)) same all = all_about (P span) (Q span) file notes (same span) all
 
-memory_each : (P : List ℕ → Span → NoteVal → Type 0) (k : ErrorKind) → IsMemoryKind k → EachNote P (kind_view k)
+memory_each : (P : Span → NoteVal → Type 0) (k : ErrorKind) → IsMemoryKind k → EachNote P (kind_view k)
 memory_each P Memory h = tt
 memory_each P (Message s) h = absurd h
 memory_each P (SyntaxError b) h = absurd h
 
-pub notes_about : (P : List ℕ → Span → NoteVal → Type 0) (file : List ℕ) (error result : Error) → IsMemory result ⊎ (error_view result ≡ error_about file (error_view error))
-    → ((text : List ℕ) (span : Span) (n : NoteVal) → P text span n → P text span (about file n)) → EachNote P (error_view error) → EachNote P (error_view result)
+pub notes_about : (P : Span → NoteVal → Type 0) (file : List ℕ) (error result : Error) → IsMemory result ⊎ (error_view result ≡ error_about file (error_view error))
+    → ((span : Span) (n : NoteVal) → P span n → P span (about file n)) → EachNote P (error_view error) → EachNote P (error_view result)
 notes_about P file error result (inl h) same all = memory_each P result.kind h
 notes_about P file error result (inr h) same all = subst (EachNote P) (sym h) (each_about P P file (error_view error) same all)
 
@@ -93,7 +93,7 @@ all_of : (notes : List NoteVal) → AllByRecursion (λ n. Unit {0}) notes
 all_of [] = tt
 all_of (n ∷ notes) = (tt, all_of notes)
 
-each_of : (v : ErrorVal) → EachNote (λ text span n. Unit {0}) v
+each_of : (v : ErrorVal) → EachNote (λ span n. Unit {0}) v
 each_of NoMemory = tt
 each_of (Saying text) = tt
 each_of (Reporting (ReportOf text span notes)) = all_of notes
@@ -102,7 +102,7 @@ is_about : (file : List ℕ) (n : NoteVal) → IsAbout file (about file n)
 is_about file (NoteOf label before span) = refl
 
 pub notes_name : (file : List ℕ) (error result : Error) → IsMemory result ⊎ (error_view result ≡ error_about file (error_view error)) → NotesName file result
-notes_name file error result (inl h) = memory_each (λ text span n. IsAbout file n) result.kind h
+notes_name file error result (inl h) = memory_each (λ span n. IsAbout file n) result.kind h
 notes_name file error result (inr h) =
-    subst (EachNote (λ text span n. IsAbout file n)) (sym h)
-    (each_about (λ text span n. Unit {0}) (λ text span n. IsAbout file n) file (error_view error) (λ text span n u. is_about file n) (each_of (error_view error)))
+    subst (EachNote (λ span n. IsAbout file n)) (sym h)
+    (each_about (λ span n. Unit {0}) (λ span n. IsAbout file n) file (error_view error) (λ span n u. is_about file n) (each_of (error_view error)))

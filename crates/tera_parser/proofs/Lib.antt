@@ -3,6 +3,7 @@ pub mod PromisesLemmas
 pub mod EndsLemmas
 pub mod About
 pub mod Lost
+pub mod FirstLemmas
 pub mod Wholes
 pub mod Meanings
 pub mod AgainLemmas

@@ -27,12 +27,15 @@ use Rattle.tera_grammar.specs.statements.Top.{Derives, DerivesNames, IsTemplate}
 use Rattle.tera_grammar.proofs.statements.Tops.{template_complete, template_sound}
 use Rattle.tera_grammar.proofs.statements.Wholes.{derives_read, read_names}
 use Rattle.tera_statements.specs.Items.{AreEmptyTexts}
+use Rattle.tera_expect.proofs.NotesLemmas.{each_weaker}
 use Rattle.tera_expect.specs.Notes.{AreFirst, IsFirst}
 use Rattle.tera_expect.specs.Taking.{RefusesIn}
 use Rattle.tera_statements.specs.Templates.{RefusesTemplate}
 use Rattle.tera_tree.specs.Tree.{Output}
-use Rattle.tera_parser.specs.Notes.{NotesFirst, about, error_about}
+use Rattle.tera_parser.specs.Notes.{IsAtFirst, NotesFirst, about, error_about}
 use Rattle.tera_parser.proofs.About.{notes_about, reports_about}
+use Rattle.tera_parser.proofs.FirstLemmas.{first_of_two}
+use Rattle.tera_spelling.proofs.Given.{source_given}
 use Rattle.tera_parser.specs.Comments.{IsComment, IsCommentsAlone}
 
 module _ (m : Marks) (valid : IsValid m) (source : List ℕ) (items : Items) (are : AreTokensOf m source items) where
@@ -69,7 +72,8 @@ module _ (m : Marks) (valid : IsValid m) (source : List ℕ) (items : Items) (ar
   pub notes_first : (l : Limits) (now : Position) → now.left ≡ items → (e : Error) → RefusesTemplate l now e → NotesFirst m source e
   unfolding RefusesIn
   notes_first l now left e (new, fails, refusal) = λ others these.
-      subst (λ ts. AreFirst ts e) (left ∙ tokens_one m valid source items others are these) refusal.2
+      each_weaker (IsFirst others) (IsAtFirst others) (error_view e) (first_of_two others (source_given m source others these))
+      (subst (λ ts. AreFirst ts e) (left ∙ tokens_one m valid source items others are these) refusal.2)
 
   -- the tokens of comments alone are empty texts
   pub comments_tokens : IsCommentsAlone m source → AreEmptyTexts items
@@ -96,7 +100,7 @@ loses_about l m source file error result named lost =
 
 pub first_about : (m : Marks) (source file : List ℕ) (error result : Error) → IsMemory result ⊎ (error_view result ≡ error_about file (error_view error))
     → NotesFirst m source error → NotesFirst m source result
-first_about m source file error result named first = λ items are. notes_about (IsFirst items) file error result named (same_note items file) (first items are)
+first_about m source file error result named first = λ items are. notes_about (IsAtFirst items) file error result named (same_note items file) (first items are)
   where
-    same_note : (items : Items) (file text : List ℕ) (span : Span) (n : NoteVal) → IsFirst items text span n → IsFirst items text span (about file n)
-    same_note items file text span (NoteOf label before first) h = h
+    same_note : (items : Items) (file : List ℕ) (span : Span) (n : NoteVal) → IsAtFirst items span n → IsAtFirst items span (about file n)
+    same_note items file span (NoteOf label before first) h = h

@@ -97,8 +97,8 @@ impl<'a> Parser<'a> {
     /// No template within the limits has the same tokens up to the end of the fault's range, and the same next step,
     /// which is a token, the end, or the lexical fault (`lost`).
     ///
-    /// The notes of a fault are about the parser's file. That on where an argument or a parameter is defined first is
-    /// at that name.
+    /// The notes of a fault are about the parser's file. A note on where an argument, a parameter or a component is
+    /// defined first is at that name.
     pub fn parse(self) -> Result<ParserOutput, Error>
         ensures sound { IfOk result (λ o.
             Derives self.entry.limits self.entry.marks self.entry.source (output_view o)) }

@@ -19,7 +19,7 @@ use Rattle.tera_layout.specs.Steady.{is_steady}
 use Rattle.tera_layout.proofs.Layouts.{layout_of, laid_out_is, laid_respaced}
 use Rattle.tera_layout.proofs.Respaced.{respaced_alike}
 use Rattle.tera_alike.proofs.Derivations.{derived_both, derived_same}
-use Rattle.tera_parser.specs.Notes.{Names, NotesName}
+use Rattle.tera_parser.specs.Notes.{EachNote, IsAbout, NotesName}
 use Rattle.tera_parser.specs.Refusal.{LosesSource, Refuses}
 use Rattle.tera_program.specs.Plans.{IsTemplate, AreOneTemplate}
 
@@ -52,7 +52,7 @@ pub memory_loses : (m : Marks) (source : List ℕ) (e : Error) → IsMemory e �
 memory_loses m source e h =
     kind_reports (λ text span. (items : Items) → AreTokensOf m source items → AreLost usual span.range.end items) e.kind h
 
-kind_names : (file : List ℕ) (k : ErrorKind) → IsMemoryKind k → Names file (kind_view k)
+kind_names : (file : List ℕ) (k : ErrorKind) → IsMemoryKind k → EachNote (λ span n. IsAbout file n) (kind_view k)
 kind_names file Memory h = tt
 kind_names file (Message s) h = absurd h
 kind_names file (SyntaxError b) h = absurd h

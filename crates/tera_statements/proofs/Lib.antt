@@ -11,6 +11,7 @@ pub mod CapturesLemmas
 pub mod ConditionsLemmas
 pub mod KnownLemmas
 pub mod CameLemmas
+pub mod KnowingLemmas
 pub mod BlocksLemmas
 pub mod ItemsLemmas
 pub mod TypesLemmas

@@ -5,7 +5,7 @@ use Rattle.tera_base.proofs.Tellings.{reports_weaker, reports_memory}
 use Rattle.tera_base.specs.Errors.{IsMemory, ReportsBy}
 use Rattle.tera_base.specs.declared.errors.Error.{Error}
 use Rattle.tera_base.specs.declared.utils.Span.{Span}
-use Rattle.tera_lexer.specs.code.Cursors.{FaultsFrom, IsLater, Passes, Position, TakesOne, is_end, size}
+use Rattle.tera_lexer.specs.code.Cursors.{FaultsFrom, IsLater, Passes, Position, RefusesFrom, TakesOne, is_end, size}
 use Rattle.tera_lexer.specs.code.Steps.{Stops}
 use Rattle.tera_lexer.specs.grammar.Faults.{Faults}
 use Rattle.tera_lexer.specs.grammar.Place.{IsWithin}
@@ -53,10 +53,9 @@ pub inside_further : (old mid new : Position) (e : Error) → GoesOn old mid →
 inside_further old mid new e goes reported = refused_further old mid new e goes (inside_refused mid new e reported)
 
 -- what is refused at tokens that were taken, or after them
-pub took_inside : (old mid new : Position) (e : Error) → Took old mid → Refuses mid new e → RefusesIn old new e
-unfolding Took Refuses RefusesIn
-took_inside old mid new e took h =
-    (by took.0.count old.left refl took.0.taken took.0.passes, reaches_later old mid new e took.0 h.1, notes_later old mid e took.0 h.2)
+pub took_faults : (old mid : Position) (e : Error) → Took old mid → RefusesFrom mid e → ReportsBy (λ text span. IsWithin old.source span × Faults old.left text span) e
+unfolding Took
+took_faults old mid e took refused = by took.0.count old.left refl took.0.taken took.0.passes
   where
     by : (n : ℕ) (items : Items) → old.left ≡ items → mid.taken ≡ old.taken + n → Passes n items old.span mid.left mid.span
         → ReportsBy (λ text span. IsWithin old.source span × Faults old.left text span) e
@@ -67,7 +66,11 @@ took_inside old mid new e took h =
         let following : Position = record { source = old.source; left = items; sight = 0; taken = old.taken + 1; span = here } in
         let later : IsLater following mid = record { count = n; source = took.0.source; taken = omega (arith, taken); passes = passes } in
         reports_weaker (λ text span. IsWithin old.source span × FaultsFrom here items text span) (λ text span. IsWithin old.source span × Faults old.left text span) e
-        (λ text span f. (f.0, subst (λ ts. Faults ts text span) (sym is) (lift_faults t here items text span f.1))) (refusals.refuses_later following mid e later h.0)
+        (λ text span f. (f.0, subst (λ ts. Faults ts text span) (sym is) (lift_faults t here items text span f.1))) (refusals.refuses_later following mid e later refused)
+
+pub took_inside : (old mid new : Position) (e : Error) → Took old mid → Refuses mid new e → RefusesIn old new e
+unfolding Took Refuses RefusesIn
+took_inside old mid new e took h = (took_faults old mid e took h.0, reaches_later old mid new e took.0 h.1, notes_later old mid e took.0 h.2)
 
 passed_faults : (n : ℕ) (items : Items) (last : Span) (left : Items) (here : Span) → Passes n items last left here → (text : List ℕ) (span : Span) → Faults left text span → Faults items text span
 passed_faults zero items last left here (left_is, span_is) text span f = subst (λ ts. Faults ts text span) left_is f
@@ -75,17 +78,19 @@ passed_faults (suc n) Ended last left here passes text span f = absurd passes
 passed_faults (suc n) (Failed reported at) last left here passes text span f = absurd passes
 passed_faults (suc n) (Token t at items) last left here passes text span f = later_faults t at items text span (passed_faults n items at left here passes text span f)
 
+pub goes_faults : (old mid : Position) (e : Error) → GoesOn old mid → ReportsBy (λ text span. IsWithin mid.source span × Faults mid.left text span) e
+    → ReportsBy (λ text span. IsWithin old.source span × Faults old.left text span) e
+unfolding GoesOn
+goes_faults old mid e goes reported =
+    reports_weaker (λ text span. IsWithin mid.source span × Faults mid.left text span) (λ text span. IsWithin old.source span × Faults old.left text span) e
+    (λ text span f. (
+      subst (λ s. IsWithin s span) goes.0.source f.0,
+      passed_faults goes.0.count old.left old.span mid.left mid.span goes.0.passes text span f.1,
+    )) reported
+
 pub goes_inside : (old mid new : Position) (e : Error) → GoesOn old mid → RefusesIn mid new e → RefusesIn old new e
 unfolding GoesOn RefusesIn
-goes_inside old mid new e goes h = (
-  reports_weaker (λ text span. IsWithin mid.source span × Faults mid.left text span) (λ text span. IsWithin old.source span × Faults old.left text span) e
-      (λ text span f. (
-        subst (λ s. IsWithin s span) goes.0.source f.0,
-        passed_faults goes.0.count old.left old.span mid.left mid.span goes.0.passes text span f.1,
-      )) h.0,
-  reaches_later old mid new e goes.0 h.1,
-  notes_later old mid e goes.0 h.2,
-)
+goes_inside old mid new e goes h = (goes_faults old mid e goes h.0, reaches_later old mid new e goes.0 h.1, notes_later old mid e goes.0 h.2)
 
 pub not_both : true ≡ false → ⊥
 not_both h = cc
@@ -101,7 +106,7 @@ untaken_inside old new e some reported = (
   where
     by : (items : Items) → old.left ≡ items → Stops old.source items e → ReportsBy (λ text span. IsWithin old.source span × Faults old.left text span) e
     by Ended is stops = absurd stops
-    by (Failed reported here) is (within, reports) =
+    by (Failed reported here) is (within, (reports, none)) =
         reports_weaker (λ text span. (text ≡ reported) × (span ≡ here)) (λ text span. IsWithin old.source span × Faults old.left text span) e
         (λ text span at. rw at.1 (within, rw is (inl (at.0, refl)))) reports
     by (Token t here items) is (takes, memory) = reports_memory (λ text span. IsWithin old.source span × Faults old.left text span) e memory

@@ -1,4 +1,5 @@
 pub mod Known
+pub mod Knowing
 pub mod Kinds
 pub mod Reading
 pub mod Settings

@@ -9,6 +9,7 @@ ghost use Rattle.tera_grammar.specs.statements.Reading.Meeting.{locate};
 ghost use Rattle.tera_statements.specs.Adding.{AddsBy, here, seen_of};
 ghost use Rattle.tera_statements.specs.Blocks.{IsName, new_block_of};
 ghost use Rattle.tera_statements.specs.Known.{located_of, met_of};
+ghost use Rattle.tera_statements.specs.Knowing.{RefusesKnowing, known_at};
 ghost use Rattle.tera_statements.specs.Settings.{bodies_under, limits_under};
 ghost use Rattle.tera_expect.specs.Taking.{GivesBy, Passes, Refuses, Took, name_in};
 
@@ -120,7 +121,8 @@ pub(crate) fn definition(
     ensures gives { AddsBy around.now result (here names.new cursor.new) (λ path start.
         component_def_of (limits_under setting.now) (bodies_under setting.now depth) path start
         cursor.old.span (seen_of names.old) cursor.old.left) }
-    ensures refusal { IfErr result (Refuses cursor.old cursor.new) }
+    ensures refusal { IfErr result
+        (RefusesKnowing (known_at around.now names.old) cursor.old cursor.new) }
     ensures later { IfOk result (λ _. Took cursor.old cursor.new) }
 {
     let opening = Opening {

@@ -13,7 +13,8 @@ ghost use Rattle.tera_grammar.specs.statements.TagParts.{Edge};
 ghost use Rattle.tera_grammar.specs.statements.Reading.Components as reading;
 ghost use Rattle.tera_grammar.specs.statements.Reading.Components.{ending_of, metadata_in, opened_of};
 ghost use Rattle.tera_statements.specs.Components.{Defines, IsOpened, agreeing_name, new_component_of};
-ghost use Rattle.tera_statements.specs.Known.{Keeps, met_of};
+ghost use Rattle.tera_statements.specs.Known.{Keeps, located_of, met_of};
+ghost use Rattle.tera_statements.specs.Knowing.{RefusesKnowing};
 ghost use Rattle.tera_statements.specs.Parameters.{IsMetadata};
 ghost use Rattle.tera_statements.specs.Reading.{IsComponent};
 ghost use Rattle.tera_statements.specs.Settings.{limits_under};
@@ -51,7 +52,8 @@ pub(crate) fn opening_tag(
     ensures gives { GivesBy (λ o x. IsOpened o x × Defines names.old names.new x)
         result cursor.new.left
         (opened_of (limits_under setting.now) (met_of names.old.components) cursor.old.left) }
-    ensures refusal { IfErr result (Refuses cursor.old cursor.new) }
+    ensures refusal { IfErr result
+        (RefusesKnowing (located_of names.old.components) cursor.old cursor.new) }
     ensures later { IfOk result (λ _. Took cursor.old cursor.new) }
 {
     let alloc = cursor.alloc();
@@ -73,7 +75,8 @@ pub(crate) fn opening_tag(
 fn new_component(cursor: &mut Cursor<'_>, seen: &mut Known) -> Result<String, Error>
     ensures gives { GivesBy (λ s n. IsComponent s n × Keeps seen.old seen.new (placed_name n))
         result cursor.new.left (new_component_of (met_of seen.old) cursor.old.left) }
-    ensures refusal { IfErr result (Refuses cursor.old cursor.new) }
+    ensures refusal { IfErr result
+        (RefusesKnowing (located_of seen.old) cursor.old cursor.new) }
     ensures later { IfOk result (λ _. Took cursor.old cursor.new) }
 {
     let name = component_name(cursor)?;

@@ -2,8 +2,9 @@
 
 ghost use Rattle.tera_lexer.specs.code.Cursors.{Position};
 ghost use Rattle.tera_statements.specs.Templates.{ComesNext};
-ghost use Rattle.tera_expect.specs.Notes.{Repeats};
-ghost use Rattle.tera_expect.specs.Taking.{GoesOn, Refuses, RefusesIn, ReportsAs, Took};
+ghost use Rattle.tera_grammar.specs.statements.Reading.Meeting.{Located};
+ghost use Rattle.tera_statements.specs.Knowing.{MeetsAgain, RefusesKnowing};
+ghost use Rattle.tera_expect.specs.Taking.{Refuses, RefusesIn, ReportsAs, Took};
 
 use crate::around::Opening;
 use tera_base::{Error, ErrorKind, Span, Value};
@@ -162,7 +163,8 @@ pub(crate) fn nested_definition(cursor: &Cursor<'_>, opening: &Opening) -> Error
 
 /// That a component of the name, which was taken last, was defined before at the span.
 pub(crate) fn repeated_component(cursor: &Cursor<'_>, name: &str, first: &Span) -> Error
-    ensures { Refuses cursor.now cursor.now result }
+    ensures { (known : Located) (old : Position) → MeetsAgain known name.now first.now old cursor.now →
+        RefusesKnowing known old cursor.now result }
 {
     let message = format!(in cursor.alloc();
         "Template already contains a component named `{name}`"
@@ -183,8 +185,8 @@ pub(crate) fn parameter_named_body(cursor: &Cursor<'_>) -> Error
 
 /// That the name, which was taken last, is that of the parameter whose name is at the span.
 pub(crate) fn repeated_parameter(cursor: &Cursor<'_>, name: &str, first: &Span) -> Error
-    ensures { (start : Position) → GoesOn start cursor.now →
-        Repeats start.left first.now cursor.now.span → Refuses start cursor.now result }
+    ensures { (known : Located) (old : Position) → MeetsAgain known name.now first.now old cursor.now →
+        RefusesKnowing known old cursor.now result }
 {
     let message = format!(in cursor.alloc();
         "Component argument `{name}` is defined more than once"

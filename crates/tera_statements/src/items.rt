@@ -9,6 +9,7 @@ ghost use Rattle.tera_lexer.specs.code.Seen.{seen};
 ghost use Rattle.tera_statements.specs.Adding.{AddsBy, added_view, here, seen_of};
 ghost use Rattle.tera_statements.specs.Items.{AreEmptyTexts, EatsText, Enters, GivesNext, GivesShown, GivesText, GoesByItem, text_in};
 ghost use Rattle.tera_statements.specs.Kinds.{kind_of, opener_of};
+ghost use Rattle.tera_statements.specs.Knowing.{RefusesInKnowing, RefusesKnowing, known_at};
 ghost use Rattle.tera_statements.specs.Simple.{is_free};
 ghost use Rattle.tera_statements.specs.Settings.{bodies_under, limits_under};
 ghost use Rattle.tera_expect.specs.Taking.{Refuses, RefusesIn, Took};
@@ -33,7 +34,7 @@ use tera_tree::Node;
 
 /// Reads the next item of a body, where one is there.
 #[cycle(bodies)]
-#[tactic(auto, using(tera_expect::proofs::TakingLemmas::took_all, crate::proofs::RefusalLemmas::took_inside, crate::proofs::RefusalLemmas::memory_inside))]
+#[tactic(auto, using(tera_expect::proofs::TakingLemmas::took_all, crate::proofs::KnowingLemmas::items_knowing))]
 pub(crate) fn item(
     setting: &Setting<'_>,
     cursor: &mut Cursor<'_>,
@@ -45,7 +46,8 @@ pub(crate) fn item(
     requires { is_none around.now.innermost ≡ true → is_free extension ≡ true }
     ensures gives { GivesNext (limits_under setting.now) depth around.now result
         (here names.new cursor.new) (here names.old cursor.old) }
-    ensures refusal { IfErr result (RefusesIn cursor.old cursor.new) }
+    ensures refusal { IfErr result
+        (RefusesInKnowing (known_at around.now names.old) cursor.old cursor.new) }
     ensures empty { IfErr result (λ _. AreEmptyTexts cursor.old.left → ⊥) }
     ensures later { GoesByItem result cursor.old cursor.new }
 {
@@ -145,6 +147,7 @@ pub(crate) fn enter(cursor: &mut Cursor<'_>, opener: Opener) -> Result<(), Error
 
 // Reads the rest of a tag that opens a statement, after its first token.
 #[cycle(bodies)]
+#[tactic(auto, using(crate::proofs::KnowingLemmas::knowing_err))]
 fn tag(
     setting: &Setting<'_>,
     cursor: &mut Cursor<'_>,
@@ -158,7 +161,8 @@ fn tag(
     ensures gives { AddsBy around.now result (here names.new cursor.new) (λ path start.
         tag_of (limits_under setting.now) (bodies_under setting.now depth) path (opener_of opener)
         start cursor.old.span (seen_of names.old) cursor.old.left) }
-    ensures refusal { IfErr result (Refuses cursor.old cursor.new) }
+    ensures refusal { IfErr result
+        (RefusesKnowing (known_at around.now names.old) cursor.old cursor.new) }
     ensures later { IfOk result (λ _. Took cursor.old cursor.new) }
 {
     match opener {

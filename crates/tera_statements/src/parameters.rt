@@ -11,12 +11,12 @@ ghost use Rattle.tera_grammar.specs.statements.Components.{is_nothing};
 ghost use Rattle.tera_grammar.specs.Reads.{first_as};
 ghost use Rattle.tera_grammar.specs.statements.Reading.Components.{annotation_in, assigned_in, default_of, fresh_name, minus_kind, parameter_of, parameters_of};
 ghost use Rattle.tera_grammar.specs.statements.Types.{has_type, put_name, type_named};
-ghost use Rattle.tera_grammar.specs.statements.Reading.Meeting.{nothing_met};
+ghost use Rattle.tera_grammar.specs.statements.Reading.Meeting.{Located, nothing_met};
 ghost use Rattle.tera_statements.specs.Known.{CameBefore, Keeps, located_of, met_of};
+ghost use Rattle.tera_statements.specs.Knowing.{MeetsAgain, RefusesKnowing};
 ghost use Rattle.tera_statements.specs.Parameters.{ArePlaced, IsAssigned, IsDefault, IsParameter, IsType, argument_as, arguments_view, has_default, taken_rest};
 ghost use Rattle.tera_statements.specs.Settings.{limits_under};
 ghost use Rattle.tera_lexer.specs.code.Cursors.{Position};
-ghost use Rattle.tera_expect.specs.Notes.{Repeats};
 ghost use Rattle.tera_expect.specs.Taking.{GivesAs, GivesBy, GoesOn, Refuses, Took, name_at};
 ghost use Rattle.tera_tree.specs.View.{argument_view, default_view};
 
@@ -173,13 +173,11 @@ fn assigned(setting: &Setting<'_>, cursor: &mut Cursor<'_>) -> Result<Option<Val
 }
 
 // A name that is neither `body` nor that of an earlier parameter.
-#[tactic(auto, using(tera_expect::proofs::TakingLemmas::refused_after))]
 fn fresh_name<'a>(cursor: &mut Cursor<'a>, seen: &Known, rest: bool) -> Result<&'a str, Error>
     ensures gives { GivesAs (name_at cursor.new.span) result cursor.new.left
         (fresh_name (met_of seen.now) cursor.old.left) }
-    ensures refusal { (start : Position) → GoesOn start cursor.old →
-        CameBefore (located_of seen.now) cursor.old.left start.left →
-        IfErr result (Refuses start cursor.new) }
+    ensures refusal { IfErr result
+        (RefusesKnowing (located_of seen.now) cursor.old cursor.new) }
     ensures later { IfOk result (λ _. Took cursor.old cursor.new) }
 {
     let name = name(cursor)?;
@@ -194,8 +192,8 @@ fn fresh_name<'a>(cursor: &mut Cursor<'a>, seen: &Known, rest: bool) -> Result<&
 
 // That the name, which was taken last, is that of the parameter whose name is at the span.
 fn repeated(cursor: &Cursor<'_>, name: &str, first: &Span, rest: bool) -> Error
-    ensures { (start : Position) → GoesOn start cursor.now →
-        Repeats start.left first.now cursor.now.span → Refuses start cursor.now result }
+    ensures { (known : Located) (old : Position) → MeetsAgain known name.now first.now old cursor.now →
+        RefusesKnowing known old cursor.now result }
 {
     if rest {
         rest_is_parameter(cursor, name)
@@ -205,13 +203,12 @@ fn repeated(cursor: &Cursor<'_>, name: &str, first: &Span, rest: bool) -> Error
 }
 
 // The name of the rest parameter, after its dots, and the closing parenthesis. The name is kept.
-#[tactic(auto, using(tera_expect::proofs::TakingLemmas::after_tokens))]
+#[tactic(auto, using(tera_expect::proofs::TakingLemmas::after_tokens, crate::proofs::KnowingLemmas::memory_knowing))]
 fn rest_parameter(cursor: &mut Cursor<'_>, seen: &mut Known) -> Result<String, Error>
     ensures gives { GivesBy (λ s n. (string_bytes s ≡ n.text) × Keeps seen.old seen.new n)
         result cursor.new.left (taken_rest (met_of seen.old) cursor.old.left) }
-    ensures refusal { (start : Position) → GoesOn start cursor.old →
-        CameBefore (located_of seen.old) cursor.old.left start.left →
-        IfErr result (Refuses start cursor.new) }
+    ensures refusal { IfErr result
+        (RefusesKnowing (located_of seen.old) cursor.old cursor.new) }
     ensures later { IfOk result (λ _. Took cursor.old cursor.new) }
 {
     let name = fresh_name(cursor, seen, true)?;
@@ -223,7 +220,7 @@ fn rest_parameter(cursor: &mut Cursor<'_>, seen: &mut Known) -> Result<String, E
 }
 
 // A parameter, whose name is kept.
-#[tactic(auto, using(crate::proofs::OnTheWay::through_tags, tera_expect::proofs::TakingLemmas::goes_further))]
+#[tactic(auto, using(crate::proofs::OnTheWay::through_tags, tera_expect::proofs::TakingLemmas::goes_further, crate::proofs::KnowingLemmas::memory_knowing))]
 fn parameter(
     setting: &Setting<'_>,
     cursor: &mut Cursor<'_>,
@@ -235,9 +232,8 @@ fn parameter(
     ensures kept { (start : Position) → GoesOn start cursor.old →
         CameBefore (located_of seen.old) cursor.old.left start.left →
         IfOk result (λ _. CameBefore (located_of seen.new) cursor.new.left start.left) }
-    ensures refusal { (start : Position) → GoesOn start cursor.old →
-        CameBefore (located_of seen.old) cursor.old.left start.left →
-        IfErr result (Refuses start cursor.new) }
+    ensures refusal { IfErr result
+        (RefusesKnowing (located_of seen.old) cursor.old cursor.new) }
     ensures later { IfOk result (λ _. Took cursor.old cursor.new) }
 {
     let alloc = cursor.alloc();

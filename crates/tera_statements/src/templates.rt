@@ -12,6 +12,8 @@ ghost use Rattle.tera_statements.specs.Adding.{added_view, here};
 ghost use Rattle.tera_tree.specs.Outputs.{output_view};
 ghost use Rattle.tera_statements.specs.Items.{AreEmptyTexts, GivesStep, GoesByItem};
 ghost use Rattle.tera_statements.specs.Kinds.{kind_of, opens_extends};
+ghost use Rattle.tera_statements.specs.Known.{located_of};
+ghost use Rattle.tera_statements.specs.Knowing.{RefusesInKnowing};
 ghost use Rattle.tera_expr_parts.specs.Allowed.{AreValid, limits_of};
 ghost use Rattle.tera_expect.specs.Taking.{RefusesIn, Took};
 ghost use Rattle.tera_statements.specs.Settings.{bodies_under, limits_under};
@@ -209,7 +211,8 @@ fn next_phase(
 ) -> Result<Option<Phase>, Error>
     ensures gives { GivesPhase (limits_under setting.now) phase result (output_view output.new)
         (output_view output.old) (here names.new cursor.new) (here names.old cursor.old) }
-    ensures refusal { IfErr result (RefusesIn cursor.old cursor.new) }
+    ensures refusal { IfErr result
+        (RefusesInKnowing (located_of names.old.components) cursor.old cursor.new) }
     ensures empty { IfErr result (λ _. AreEmptyTexts cursor.old.left → ⊥) }
     ensures later { GoesByItem result cursor.old cursor.new }
 {
@@ -240,7 +243,7 @@ fn text_phase(
 }
 
 // Takes what the next item adds, where one is there, and returns the phase after it.
-#[tactic(auto, using(crate::proofs::RefusalLemmas::memory_inside))]
+#[tactic(auto, using(crate::proofs::KnowingLemmas::memory_inside_knowing))]
 fn item_phase(
     setting: &Setting<'_>,
     cursor: &mut Cursor<'_>,
@@ -250,7 +253,8 @@ fn item_phase(
 ) -> Result<Option<Phase>, Error>
     ensures gives { GivesPhase (limits_under setting.now) phase result (output_view output.new)
         (output_view output.old) (here names.new cursor.new) (here names.old cursor.old) }
-    ensures refusal { IfErr result (RefusesIn cursor.old cursor.new) }
+    ensures refusal { IfErr result
+        (RefusesInKnowing (located_of names.old.components) cursor.old cursor.new) }
     ensures empty { IfErr result (λ _. AreEmptyTexts cursor.old.left → ⊥) }
     ensures later { GoesByItem result cursor.old cursor.new }
 {
@@ -262,7 +266,7 @@ fn item_phase(
 }
 
 // Reads the next item of the top level, where one is there, and returns the phase after it.
-#[tactic(auto, using(crate::proofs::RefusalLemmas::memory_inside))]
+#[tactic(auto, using(crate::proofs::KnowingLemmas::memory_inside_knowing))]
 fn next_item(
     setting: &Setting<'_>,
     cursor: &mut Cursor<'_>,
@@ -272,7 +276,8 @@ fn next_item(
 ) -> Result<Option<(Added, Phase)>, Error>
     ensures gives { GivesTop (limits_under setting.now) phase result (here names.new cursor.new)
         (here names.old cursor.old) }
-    ensures refusal { IfErr result (RefusesIn cursor.old cursor.new) }
+    ensures refusal { IfErr result
+        (RefusesInKnowing (located_of names.old.components) cursor.old cursor.new) }
     ensures empty { IfErr result (λ _. AreEmptyTexts cursor.old.left → ⊥) }
     ensures later { GoesByItem result cursor.old cursor.new }
 {
@@ -370,7 +375,8 @@ fn top_item(
         (step (limits_under setting.now)
         (bodies_under setting.now (top_depth (limits_under setting.now))) []
         (here names.old cursor.old).seen cursor.old.left (front cursor.old.left)) }
-    ensures refusal { IfErr result (RefusesIn cursor.old cursor.new) }
+    ensures refusal { IfErr result
+        (RefusesInKnowing (located_of names.old.components) cursor.old cursor.new) }
     ensures empty { IfErr result (λ _. AreEmptyTexts cursor.old.left → ⊥) }
     ensures later { GoesByItem result cursor.old cursor.new }
 {

@@ -1,12 +1,12 @@
 -- What a cursor has left, what it shows, and which faults it meets.
 use Rattle.std.specs.Prelude.{◌≡◌, ◌⊎◌, ◌↔◌, ℕ, zero, suc, ◌+◌, ◌<◌, Bool, true, false, List, Option, Some, None, Result, Ok, Err, codes}
-use Rattle.tera_base.specs.Errors.{Reports, ReportsBy, end_of}
+use Rattle.tera_base.specs.Errors.{ReportsBy, end_of}
 use Rattle.tera_base.specs.declared.utils.Span.{Span}
 use Rattle.tera_base.specs.declared.errors.Error.{Error}
 use Rattle.tera_lexer.specs.grammar.Place.{IsWithin}
 use Rattle.tera_lexer.specs.grammar.Tokens as toks
 use Rattle.tera_lexer.specs.grammar.Tokens.{Tok, Items, Ended, Failed}
-use Rattle.tera_lexer.specs.code.Steps.{TakesMemory, Stops}
+use Rattle.tera_lexer.specs.code.Steps.{ReportsAlone, TakesMemory, Stops}
 use Rattle.tera_lexer.specs.code.Seen.{seen}
 use Rattle.tera_lexer.specs.grammar.Faults.{BeginsWith, EndsWith, Faults, IsEndAfter}
 use Rattle.tera_lexer.specs.declared.lexer.tokens.Token.{Token}
@@ -97,7 +97,7 @@ pub record IsLater (old new : Position) : Type 0 where
 
 -- none is left, which is the end of the input after the token taken last
 abbrev pub MeetsEnd : Position → Error → Position → Type 0
-MeetsEnd old e new = (old.left ≡ Ended) × Reports (codes "Unexpected end of input") (end_of old.span) e × (new ≡ old)
+MeetsEnd old e new = (old.left ≡ Ended) × ReportsAlone (codes "Unexpected end of input") (end_of old.span) e × (new ≡ old)
 
 -- a cursor took the next token, or reported that there is none, or that reading stopped
 abbrev pub TakesOne : Position → Result (Token × Span) Error → Position → Type 0

@@ -4,7 +4,7 @@ use Rattle.tera_lexer.specs.grammar.Place.{IsWithin}
 use Rattle.tera_lexer.specs.grammar.Tokens as toks
 use Rattle.tera_lexer.specs.grammar.Tokens.{Tok, Items, Ended, Failed, Content, Escaped}
 use Rattle.tera_lexer.specs.grammar.Tiling.{Shows}
-use Rattle.tera_base.specs.Errors.{IsMemory, Reports}
+use Rattle.tera_base.specs.Errors.{HasNoNotes, IsMemory, Reports}
 use Rattle.tera_lexer.specs.reading.Stream.{Stream}
 use Rattle.tera_lexer.specs.code.Seen.{seen}
 use Rattle.tera_base.specs.declared.utils.Span.{Span}
@@ -16,10 +16,14 @@ abbrev pub TakesMemory : Tok → Type 0
 TakesMemory (Escaped text) = Unit {0}
 TakesMemory _ = ⊥
 
+-- a syntax error with this text and span, and no notes, unless an allocation failed
+abbrev pub ReportsAlone : List ℕ → Span → Error → Type 0
+ReportsAlone text span e = Reports text span e × HasNoNotes e
+
 -- reading stops before these tokens: at their fault, which is reported, or at a token for which an allocation failed
 abbrev pub Stops : List ℕ → Items → Error → Type 0
 Stops source Ended e = ⊥
-Stops source (Failed text span) e = IsWithin source span × Reports text span e
+Stops source (Failed text span) e = IsWithin source span × ReportsAlone text span e
 Stops source (toks.Token t span items) e = TakesMemory t × IsMemory e
 
 -- the text is a part of the bytes

@@ -6,7 +6,8 @@ ghost use Rattle.tera_lexer.specs.grammar.Lexed.{AreLexed};
 ghost use Rattle.tera_lexer.specs.code.Seen.{seen};
 ghost use Rattle.std.specs.Option.{option_map, option_transpose};
 ghost use Rattle.tera_lexer.specs.code.CursorView.{IsTokenAhead};
-ghost use Rattle.tera_base.specs.Errors.{Reports, end_of};
+ghost use Rattle.tera_base.specs.Errors.{end_of};
+ghost use Rattle.tera_lexer.specs.code.Steps.{ReportsAlone};
 
 use crate::lexer::stream::Tokens;
 use crate::lexer::tokens::Token;
@@ -171,7 +172,7 @@ impl<'a> Cursor<'a> {
     /// The end of the input, after the token taken last: a syntax error, or `Memory` if its text cannot be
     /// allocated.
     pub fn eoi(&self) -> Error
-        ensures reports { Reports (codes "Unexpected end of input") (end_of self.now.span) result }
+        ensures reports { ReportsAlone (codes "Unexpected end of input") (end_of self.now.span) result }
         ensures within { IsWithin self.now.source (end_of self.now.span) }
     {
         ReportError::unexpected_end_of_input(self.alloc, &self.current_span)

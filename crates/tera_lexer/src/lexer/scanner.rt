@@ -17,8 +17,7 @@ ghost use Rattle.tera_lexer.specs.code.Found.{IsEscapedAt};
 ghost use Rattle.tera_lexer.specs.grammar.Division.{is_at_start};
 ghost use Rattle.tera_lexer.specs.reading.Front.{find_marker};
 ghost use Rattle.tera_lexer.specs.code.Markers.{marker_len, IsStartOf, IsEndOf, OpensBy, ClosesBy, IsAhead};
-ghost use Rattle.tera_base.specs.Errors.{Reports};
-ghost use Rattle.tera_lexer.specs.code.Steps.{Steps, IsPart};
+ghost use Rattle.tera_lexer.specs.code.Steps.{ReportsAlone, Steps, IsPart};
 
 use crate::lexer::delimiters::{Delimiters, Kind};
 use crate::lexer::lexeme::{Class, Fault, Found, begins_printable, lexeme_at, run_len, unescape};
@@ -159,7 +158,7 @@ impl<'a> Scanner<'a> {
         ensures within { IsWithin (whole_of self.old)
             (span_of self.old.front (take len self.old.rest)) }
         ensures error { (text : List ℕ) → IfOk message (λ t. string_bytes t ≡ text) →
-            Reports text (span_of self.old.front (take len self.old.rest)) result }
+            ReportsAlone text (span_of self.old.front (take len self.old.rest)) result }
     {
         let (_, end) = self.peek(len);
         let span = self.place.to(end);

@@ -244,3 +244,21 @@ items::item-returns-in-Wrong-clause-refusal t c = items.items::item-returns-in-W
 
 pub items::item-returns-in-Wrong-clause-empty : goal.items::item-returns-in-Wrong-clause-empty
 items::item-returns-in-Wrong-clause-empty t c = items.items::item-returns-in-Wrong-clause-empty t c
+
+pub bodies::item_node-returns-in_err-added-clause-refusal : goal.bodies::item_node-returns-in_err-added-clause-refusal
+bodies::item_node-returns-in_err-added-clause-refusal t c = bodies.bodies::item_node-returns-in_err-added-clause-refusal t c
+
+pub items::item-returns-in_err-added-in-Opens-clause-refusal : goal.items::item-returns-in_err-added-in-Opens-clause-refusal
+items::item-returns-in_err-added-in-Opens-clause-refusal t c = items.items::item-returns-in_err-added-in-Opens-clause-refusal t c
+
+pub blocks::definition-returns-in_err-check_definition-clause-refusal : goal.blocks::definition-returns-in_err-check_definition-clause-refusal
+blocks::definition-returns-in_err-check_definition-clause-refusal t c = blocks.blocks::definition-returns-in_err-check_definition-clause-refusal t c
+
+pub blocks::definition-returns-in_err-opened-clause-refusal : goal.blocks::definition-returns-in_err-opened-clause-refusal
+blocks::definition-returns-in_err-opened-clause-refusal t c = blocks.blocks::definition-returns-in_err-opened-clause-refusal t c
+
+pub blocks::definition-returns-in_err-inside-clause-refusal : goal.blocks::definition-returns-in_err-inside-clause-refusal
+blocks::definition-returns-in_err-inside-clause-refusal t c = blocks.blocks::definition-returns-in_err-inside-clause-refusal t c
+
+pub blocks::definition-returns-in_err-closing_tag-clause-refusal : goal.blocks::definition-returns-in_err-closing_tag-clause-refusal
+blocks::definition-returns-in_err-closing_tag-clause-refusal t c = blocks.blocks::definition-returns-in_err-closing_tag-clause-refusal t c

@@ -8,9 +8,12 @@ use Rattle.tera_grammar.specs.statements.Output.{AddsNode, AddsDefinition}
 use Rattle.tera_grammar.specs.statements.Reading.TagParts.{tag}
 use Rattle.tera_statements.specs.Adding.{here, seen_of}
 use Rattle.tera_statements.specs.Known.{located_of}
+use Rattle.tera_statements.specs.Knowing.{known_at}
 use Rattle.tera_statements.proofs.BlocksLemmas.{barred, block_unnamed, block_unfinished, block_empty, block_unclosed, block_given, block_kept, definition_empty, definition_given, definition_unclosed, nested, unopened}
 use Rattle.tera_expect.proofs.Steps.{failed_as, fails_by}
+use Rattle.tera_expect.proofs.TakingLemmas.{refused_after, took_further}
 use Rattle.tera_statements.proofs.ComponentsLemmas.{ending_keeps, same_definition}
+use Rattle.tera_statements.proofs.KnowingLemmas.{knowing, knowing_top}
 use Rattle.tera_statements.proofs.KnownLemmas.{same_place}
 use Rattle.tera_statements.proofs.+bodies.Goals as goal
 
@@ -110,3 +113,23 @@ blocks::definition-returns-clause-gives t c = λ path represents start.
       definition_given _ _ path start c.args.cursor.now.span seen _ may o _ named b (here c.body.new.names c.body.new.cursor) (rw (sym keeps) inside) h _ ended,
       ap AddsDefinition whole,
     )
+
+pub blocks::definition-returns-in_err-check_definition-clause-refusal : goal.blocks::definition-returns-in_err-check_definition-clause-refusal
+blocks::definition-returns-in_err-check_definition-clause-refusal t c =
+    let p = err_from_is_err_and c.from_residual.result c.from_residual.ensures.1 in
+    rw (p.1, p.2) (knowing (known_at c.args.around.now c.args.names.now) _ _ _ c.in_err-check_definition.ensures.refusal)
+
+pub blocks::definition-returns-in_err-opened-clause-refusal : goal.blocks::definition-returns-in_err-opened-clause-refusal
+blocks::definition-returns-in_err-opened-clause-refusal t c =
+    let p = err_from_is_err_and c.from_residual-in_err-opened.result c.from_residual-in_err-opened.ensures.1 in
+    rw (p.1, p.2) (knowing_top _ (located_of c.args.names.now.components) _ _ _ c.in_ok-check_definition.ensures.represents c.in_err-opened.ensures.refusal)
+
+pub blocks::definition-returns-in_err-inside-clause-refusal : goal.blocks::definition-returns-in_err-inside-clause-refusal
+blocks::definition-returns-in_err-inside-clause-refusal t c =
+    let p = err_from_is_err_and c.from_residual-in_err-inside.result c.from_residual-in_err-inside.ensures.1 in
+    rw (p.1, p.2) (knowing (known_at c.args.around.now c.args.names.now) _ _ _ (refused_after _ _ _ _ c.in_ok-opened.ensures.later c.in_err-inside.ensures.refusal))
+
+pub blocks::definition-returns-in_err-closing_tag-clause-refusal : goal.blocks::definition-returns-in_err-closing_tag-clause-refusal
+blocks::definition-returns-in_err-closing_tag-clause-refusal t c =
+    let p = err_from_is_err_and c.from_residual-in_err-closing_tag.result c.from_residual-in_err-closing_tag.ensures.1 in
+    rw (p.1, p.2) (knowing (known_at c.args.around.now c.args.names.now) _ _ _ (refused_after _ _ _ _ (took_further _ _ _ c.in_ok-opened.ensures.later c.in_ok-inside.ensures.later) c.in_err-closing_tag.ensures.refusal))

@@ -13,8 +13,10 @@ use Rattle.tera_statements.specs.Adding.{here, seen_of}
 use Rattle.tera_statements.specs.Around.{context_of}
 use Rattle.tera_expr_parts.specs.Allowed.{limits_of}
 use Rattle.tera_expect.specs.Taking.{GoesOn}
+use Rattle.tera_statements.specs.Known.{located_of}
 use Rattle.tera_statements.proofs.BodiesLemmas.{no_depth}
 use Rattle.tera_statements.proofs.ItemsLemmas.{step_holds}
+use Rattle.tera_statements.proofs.KnowingLemmas.{inside_elsewhere}
 use Rattle.tera_expect.proofs.TakingLemmas.{took_size, goes_further, stays, took_goes}
 use Rattle.tera_expect.proofs.Steps.{failed_as}
 use Rattle.tera_statements.proofs.+bodies.Goals as goal
@@ -110,3 +112,8 @@ bodies::item_node-returns-clause-gives t c = λ path represents.
     let gives = rw c.in-Some.is at c.in_ok-added.ensures.gives in
     let (i, read, shows) = gives path represents in
     (i, read, c.in_ok-push_node.ensures.pushed ∙ ap (λ a. map node_view c.args.nodes.now.items ++ added_nodes a) shows)
+
+pub bodies::item_node-returns-in_err-added-clause-refusal : goal.bodies::item_node-returns-in_err-added-clause-refusal
+bodies::item_node-returns-in_err-added-clause-refusal t c =
+    let p = err_from_is_err_and c.from_residual.result c.from_residual.ensures.1 in
+    rw (p.1, p.2) (inside_elsewhere _ (located_of c.args.names.now.components) _ _ _ c.requires c.in_err-added.ensures.refusal)

@@ -7,6 +7,8 @@ use Rattle.tera_statements.specs.Adding.{seen_of}
 use Rattle.tera_statements.specs.Kinds.{opener_of}
 use Rattle.tera_expr_parts.specs.Allowed.{limits_of}
 use Rattle.tera_statements.proofs.ItemsLemmas.{opens_item, opens_nothing, step_closed, step_ended, step_wrong}
+use Rattle.tera_statements.specs.Knowing.{known_at}
+use Rattle.tera_statements.proofs.KnowingLemmas.{inside_knowing, knowing_inside}
 use Rattle.tera_statements.proofs.RefusalLemmas.{quiet, wrong_left}
 use Rattle.tera_statements.proofs.Tags.{stops_there}
 use Rattle.tera_expect.proofs.Steps.{failed_as}
@@ -47,7 +49,13 @@ items::item-returns-in-Wrong-clause-gives t c = λ path represents.
     stops_there _ _ _ _ (step_wrong l (body c.args.depth l) path (seen_of c.args.names.now) c.args.cursor.now.left c.in-Wrong.ensures) c.unknown_tag.ensures.stops
 
 pub items::item-returns-in-Wrong-clause-refusal : goal.items::item-returns-in-Wrong-clause-refusal
-items::item-returns-in-Wrong-clause-refusal t c = c.unknown_tag.ensures.inside (wrong_left c.args.cursor.now.left c.in-Wrong.ensures)
+items::item-returns-in-Wrong-clause-refusal t c =
+    inside_knowing (known_at c.args.around.now c.args.names.now) _ _ _ (c.unknown_tag.ensures.inside (wrong_left c.args.cursor.now.left c.in-Wrong.ensures))
 
 pub items::item-returns-in-Wrong-clause-empty : goal.items::item-returns-in-Wrong-clause-empty
 items::item-returns-in-Wrong-clause-empty t c = λ empty. quiet _ c.args.cursor.now.left c.in-Wrong.ensures empty
+
+pub items::item-returns-in_err-added-in-Opens-clause-refusal : goal.items::item-returns-in_err-added-in-Opens-clause-refusal
+items::item-returns-in_err-added-in-Opens-clause-refusal t c =
+    let p = err_from_is_err_and c.from_residual-in_err-added-in-Opens.result c.from_residual-in_err-added-in-Opens.ensures.1 in
+    rw (p.1, p.2) (knowing_inside (known_at c.args.around.now c.args.names.now) _ _ _ _ c.in_ok-enter-in-Opens.ensures.later c.in_err-added-in-Opens.ensures.refusal)

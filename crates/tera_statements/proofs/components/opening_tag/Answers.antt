@@ -4,7 +4,8 @@ use Rattle.tera_statements.proofs.ComponentsLemmas.{no_new_name, no_paren, no_pa
 use Rattle.tera_statements.proofs.KnownLemmas.{same_group}
 use Rattle.tera_statements.specs.Known.{grouped_of, located_of}
 use Rattle.tera_expect.proofs.Steps.{failed_as}
-use Rattle.tera_expect.proofs.TakingLemmas.{took_all, took_further}
+use Rattle.tera_expect.proofs.TakingLemmas.{refused_after, took_all, took_further}
+use Rattle.tera_statements.proofs.KnowingLemmas.{knowing, memory_knowing}
 use Rattle.tera_statements.proofs.components.opening_tag.Goals as goal
 
 pub returns-in_err-name-clause-gives : goal.returns-in_err-name-clause-gives
@@ -57,3 +58,33 @@ returns-clause-later c =
     took_all _ _ _
     (took_further _ _ _ (took_all _ _ _ (took_all _ _ _ c.in_ok-name.ensures.later c.in_ok-expect.ensures.later) c.in_ok-parameters.ensures.later) c.in_ok-metadata.ensures.later)
     c.in_ok-finish.ensures.later
+
+pub returns-in_err-name-clause-refusal : goal.returns-in_err-name-clause-refusal
+returns-in_err-name-clause-refusal c =
+    let p = err_from_is_err_and c.from_residual.result c.from_residual.ensures.1 in
+    rw (p.1, p.2) c.in_err-name.ensures.refusal
+
+pub returns-in_err-expect-clause-refusal : goal.returns-in_err-expect-clause-refusal
+returns-in_err-expect-clause-refusal c =
+    let p = err_from_is_err_and c.from_residual-in_err-expect.result c.from_residual-in_err-expect.ensures.1 in
+    rw (p.1, p.2) (knowing (located_of c.args.names.now.components) _ _ _ (refused_after _ _ _ _ c.in_ok-name.ensures.later c.in_err-expect.ensures.refusal))
+
+pub returns-in_err-parameters-clause-refusal : goal.returns-in_err-parameters-clause-refusal
+returns-in_err-parameters-clause-refusal c =
+    let p = err_from_is_err_and c.from_residual-in_err-parameters.result c.from_residual-in_err-parameters.ensures.1 in
+    rw (p.1, p.2) (knowing (located_of c.args.names.now.components) _ _ _ (refused_after _ _ _ _ (took_all _ _ _ c.in_ok-name.ensures.later c.in_ok-expect.ensures.later) c.in_err-parameters.ensures.refusal))
+
+pub returns-in_err-keep_parameters-clause-refusal : goal.returns-in_err-keep_parameters-clause-refusal
+returns-in_err-keep_parameters-clause-refusal c =
+    let p = err_from_is_err_and c.from_residual-in_err-keep_parameters.result c.from_residual-in_err-keep_parameters.ensures.1 in
+    rw (p.1, p.2) (memory_knowing (located_of c.args.names.now.components) _ _ _ c.in_err-keep_parameters.ensures.refusal)
+
+pub returns-in_err-metadata-clause-refusal : goal.returns-in_err-metadata-clause-refusal
+returns-in_err-metadata-clause-refusal c =
+    let p = err_from_is_err_and c.from_residual-in_err-metadata.result c.from_residual-in_err-metadata.ensures.1 in
+    rw (p.1, p.2) (knowing (located_of c.args.names.now.components) _ _ _ (refused_after _ _ _ _ (took_all _ _ _ (took_all _ _ _ c.in_ok-name.ensures.later c.in_ok-expect.ensures.later) c.in_ok-parameters.ensures.later) c.in_err-metadata.ensures.refusal))
+
+pub returns-in_err-finish-clause-refusal : goal.returns-in_err-finish-clause-refusal
+returns-in_err-finish-clause-refusal c =
+    let p = err_from_is_err_and c.from_residual-in_err-finish.result c.from_residual-in_err-finish.ensures.1 in
+    rw (p.1, p.2) (knowing (located_of c.args.names.now.components) _ _ _ (refused_after _ _ _ _ (took_further _ _ _ (took_all _ _ _ (took_all _ _ _ c.in_ok-name.ensures.later c.in_ok-expect.ensures.later) c.in_ok-parameters.ensures.later) c.in_ok-metadata.ensures.later) c.in_err-finish.ensures.refusal))

@@ -11,8 +11,9 @@ use Rattle.tera_statements.proofs.KnownLemmas.{same_place}
 use Rattle.tera_grammar.specs.expressions.Marks.{At}
 use Rattle.tera_grammar.specs.expressions.Reading.Front.{takes}
 use Rattle.tera_expect.proofs.NotesLemmas.{comes_further, goes_left, left_further, took_left}
-use Rattle.tera_expect.proofs.TakingLemmas.{goes_further, memory_refused, refused_further, took_goes}
+use Rattle.tera_expect.proofs.TakingLemmas.{goes_further, goes_took, refused_after, took_further}
 use Rattle.tera_statements.proofs.CameLemmas.{came_left, fresh_comes, located_came}
+use Rattle.tera_statements.proofs.KnowingLemmas.{knowing, knowing_further, memory_knowing}
 use Rattle.tera_statements.proofs.ParametersLemmas.{eaten_goes}
 use Rattle.tera_statements.proofs.parameters.parameter.Goals as goal
 
@@ -75,36 +76,36 @@ returns-clause-gives c =
     )
 
 pub returns-in_err-name-clause-refusal : goal.returns-in_err-name-clause-refusal
-returns-in_err-name-clause-refusal c = λ start goes came.
+returns-in_err-name-clause-refusal c =
     let ahead = eaten_goes c.eat-implicit.result c.args.cursor.now c.eat-implicit.new.cursor (takes At c.args.cursor.now.left) c.eat-implicit.ensures in
     let p = err_from_is_err_and c.from_residual.result c.from_residual.ensures.1 in
-    rw (p.1, p.2) (c.in_err-name.ensures.refusal start (goes_further start _ _ goes ahead) (came_left (located_of c.args.seen.now) _ _ _ (goes_left _ _ ahead) came))
+    rw (p.1, p.2) (knowing_further (located_of c.args.seen.now) _ _ _ _ ahead c.in_err-name.ensures.refusal)
 
 pub returns-in_err-keep_name-clause-refusal : goal.returns-in_err-keep_name-clause-refusal
-returns-in_err-keep_name-clause-refusal c = λ start goes came.
+returns-in_err-keep_name-clause-refusal c =
     let p = err_from_is_err_and c.from_residual-in_err-keep_name.result c.from_residual-in_err-keep_name.ensures.1 in
-    rw (p.1, p.2) (memory_refused start _ _ c.in_err-keep_name.ensures.refusal)
+    rw (p.1, p.2) (memory_knowing (located_of c.args.seen.now) _ _ _ c.in_err-keep_name.ensures.refusal)
 
 pub returns-in_err-typ-clause-refusal : goal.returns-in_err-typ-clause-refusal
-returns-in_err-typ-clause-refusal c = λ start goes came.
+returns-in_err-typ-clause-refusal c =
     let ahead = eaten_goes c.eat-implicit.result c.args.cursor.now c.eat-implicit.new.cursor (takes At c.args.cursor.now.left) c.eat-implicit.ensures in
-    let fresh = goes_further start _ _ goes (goes_further _ _ _ ahead (took_goes _ _ c.in_ok-name.ensures.later)) in
+    let fresh = goes_took _ _ _ ahead c.in_ok-name.ensures.later in
     let p = err_from_is_err_and c.from_residual-in_err-typ.result c.from_residual-in_err-typ.ensures.1 in
-    rw (p.1, p.2) (refused_further start _ _ _ fresh c.in_err-typ.ensures.refusal)
+    rw (p.1, p.2) (knowing (located_of c.args.seen.now) _ _ _ (refused_after _ _ _ _ fresh c.in_err-typ.ensures.refusal))
 
 pub returns-in_err-default-clause-refusal : goal.returns-in_err-default-clause-refusal
-returns-in_err-default-clause-refusal c = λ start goes came.
+returns-in_err-default-clause-refusal c =
     let ahead = eaten_goes c.eat-implicit.result c.args.cursor.now c.eat-implicit.new.cursor (takes At c.args.cursor.now.left) c.eat-implicit.ensures in
-    let fresh = goes_further start _ _ goes (goes_further _ _ _ ahead (took_goes _ _ c.in_ok-name.ensures.later)) in
+    let fresh = goes_took _ _ _ ahead c.in_ok-name.ensures.later in
     let p = err_from_is_err_and c.from_residual-in_err-default.result c.from_residual-in_err-default.ensures.1 in
-    rw (p.1, p.2) (refused_further start _ _ _ (goes_further start _ _ fresh c.in_ok-typ.ensures.later) c.in_err-default.ensures.refusal)
+    rw (p.1, p.2) (knowing (located_of c.args.seen.now) _ _ _ (refused_after _ _ _ _ (took_further _ _ _ fresh c.in_ok-typ.ensures.later) c.in_err-default.ensures.refusal))
 
 pub returns-in_err-check_default-clause-refusal : goal.returns-in_err-check_default-clause-refusal
-returns-in_err-check_default-clause-refusal c = λ start goes came.
+returns-in_err-check_default-clause-refusal c =
     let ahead = eaten_goes c.eat-implicit.result c.args.cursor.now c.eat-implicit.new.cursor (takes At c.args.cursor.now.left) c.eat-implicit.ensures in
-    let fresh = goes_further start _ _ goes (goes_further _ _ _ ahead (took_goes _ _ c.in_ok-name.ensures.later)) in
+    let fresh = goes_took _ _ _ ahead c.in_ok-name.ensures.later in
     let p = err_from_is_err_and c.from_residual-in_err-check_default.result c.from_residual-in_err-check_default.ensures.1 in
-    rw (p.1, p.2) (refused_further start _ _ _ (goes_further start _ _ fresh (goes_further _ _ _ c.in_ok-typ.ensures.later c.in_ok-default.ensures.later)) c.in_err-check_default.ensures.refusal)
+    rw (p.1, p.2) (knowing (located_of c.args.seen.now) _ _ _ (refused_after _ _ _ _ (took_further _ _ _ (took_further _ _ _ fresh c.in_ok-typ.ensures.later) c.in_ok-default.ensures.later) c.in_err-check_default.ensures.refusal))
 
 pub returns-clause-kept : goal.returns-clause-kept
 returns-clause-kept c = λ start goes came.

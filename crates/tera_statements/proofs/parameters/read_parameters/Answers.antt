@@ -11,6 +11,7 @@ use Rattle.tera_grammar.specs.statements.Reading.Meeting.{met}
 use Rattle.tera_statements.specs.Known.{located_of}
 use Rattle.tera_statements.proofs.KnownLemmas.{none_located}
 use Rattle.tera_statements.proofs.CameLemmas.{came_left, none_came}
+use Rattle.tera_statements.proofs.KnowingLemmas.{known_refused}
 use Rattle.tera_expect.proofs.NotesLemmas.{goes_left, left_further, took_left}
 use Rattle.tera_statements.specs.Parameters.{arguments_view}
 use Rattle.tera_expr_parts.specs.Allowed.{limits_of}
@@ -149,8 +150,8 @@ returns-in_err-rest_parameter-clause-refusal c =
     let ahead = eaten_goes c.eat.result c.parameters.cursor c.eat.new.cursor (takes RightParen c.parameters.cursor.left) c.eat.ensures in
     let here = goes_further _ _ _ ahead (took_goes _ _ dots.1) in
     let p = err_from_is_err_and c.from_residual.result c.from_residual.ensures.1 in
-    rw (p.1, p.2) (c.in_err-rest_parameter.ensures.refusal c.args.cursor.now (goes_further _ _ _ c.parameters.invariant.later here)
-    (came_left (located_of c.parameters.seen) _ _ _ (goes_left _ _ here) c.parameters.invariant.kept))
+    rw (p.1, p.2) (known_refused (located_of c.parameters.seen) c.args.cursor.now _ _ _ (goes_further _ _ _ c.parameters.invariant.later here)
+    (came_left (located_of c.parameters.seen) _ _ _ (goes_left _ _ here) c.parameters.invariant.kept) c.in_err-rest_parameter.ensures.refusal)
 
 pub returns-then-eat-2-clause-later : goal.returns-then-eat-2-clause-later
 returns-then-eat-2-clause-later c =
@@ -164,8 +165,8 @@ returns-in_err-name-clause-refusal c =
     let second = eaten_goes c.eat-in-parameters.result c.eat.new.cursor c.eat-in-parameters.new.cursor (takes Spread c.eat.new.cursor.left) c.eat-in-parameters.ensures in
     let here = goes_further _ _ _ first second in
     let p = err_from_is_err_and c.from_residual-in_err-name.result c.from_residual-in_err-name.ensures.1 in
-    rw (p.1, p.2) (c.in_err-name.ensures.refusal c.args.cursor.now (goes_further _ _ _ c.parameters.invariant.later here)
-    (came_left (located_of c.parameters.seen) _ _ _ (goes_left _ _ here) c.parameters.invariant.kept))
+    rw (p.1, p.2) (known_refused (located_of c.parameters.seen) c.args.cursor.now _ _ _ (goes_further _ _ _ c.parameters.invariant.later here)
+    (came_left (located_of c.parameters.seen) _ _ _ (goes_left _ _ here) c.parameters.invariant.kept) c.in_err-name.ensures.refusal)
 
 pub returns-then-eat-3-clause-later : goal.returns-then-eat-3-clause-later
 returns-then-eat-3-clause-later c =

@@ -5,7 +5,8 @@ use Rattle.tera_statements.proofs.KnownLemmas.{same_place}
 use Rattle.std.proofs.lemmas.Result.{err_from_is_err_and}
 use Rattle.tera_grammar.specs.expressions.Marks.{RightParen}
 use Rattle.tera_grammar.specs.expressions.Reading.Front.{takes}
-use Rattle.tera_expect.proofs.TakingLemmas.{goes_further, memory_refused, refused_further, took_goes}
+use Rattle.tera_expect.proofs.TakingLemmas.{refused_after, took_further}
+use Rattle.tera_statements.proofs.KnowingLemmas.{knowing, memory_knowing}
 use Rattle.tera_statements.proofs.ParametersLemmas.{eaten_goes}
 use Rattle.tera_statements.proofs.parameters.rest_parameter.Goals as goal
 
@@ -23,16 +24,16 @@ returns-clause-gives c =
     )
 
 pub returns-in_err-name-clause-refusal : goal.returns-in_err-name-clause-refusal
-returns-in_err-name-clause-refusal c = λ start goes came.
+returns-in_err-name-clause-refusal c =
     let p = err_from_is_err_and c.from_residual.result c.from_residual.ensures.1 in
-    rw (p.1, p.2) (c.in_err-name.ensures.refusal start goes came)
+    rw (p.1, p.2) c.in_err-name.ensures.refusal
 
 pub returns-in_err-keep_name-clause-refusal : goal.returns-in_err-keep_name-clause-refusal
-returns-in_err-keep_name-clause-refusal c = λ start goes came.
+returns-in_err-keep_name-clause-refusal c =
     let p = err_from_is_err_and c.from_residual-in_err-keep_name.result c.from_residual-in_err-keep_name.ensures.1 in
-    rw (p.1, p.2) (memory_refused start _ _ c.in_err-keep_name.ensures.refusal)
+    rw (p.1, p.2) (memory_knowing (located_of c.args.seen.now) _ _ _ c.in_err-keep_name.ensures.refusal)
 
 pub returns-then-not-eat-clause-refusal : goal.returns-then-not-eat-clause-refusal
-returns-then-not-eat-clause-refusal c = λ start goes came.
+returns-then-not-eat-clause-refusal c =
     let stays = eaten_goes c.eat.result c.fresh_name.new.cursor c.eat.new.cursor (takes RightParen c.fresh_name.new.cursor.left) c.eat.ensures in
-    refused_further start _ _ _ (goes_further start _ _ goes (goes_further _ _ _ (took_goes _ _ c.in_ok-name.ensures.later) stays)) c.rest_is_not_last.ensures
+    knowing (located_of c.args.seen.now) _ _ _ (refused_after _ _ _ _ (took_further _ _ _ c.in_ok-name.ensures.later stays) c.rest_is_not_last.ensures)

@@ -6,6 +6,8 @@ use Rattle.tera_expr_parts.specs.Allowed.{limits_of}
 use Rattle.tera_statements.specs.Adding.{here, seen_of}
 use Rattle.tera_tree.specs.Outputs.{output_view}
 use Rattle.tera_statements.specs.Templates.{phase_of, top_depth}
+use Rattle.tera_statements.specs.Known.{located_of}
+use Rattle.tera_statements.proofs.KnowingLemmas.{memory_inside_knowing}
 use Rattle.tera_statements.proofs.RefusalLemmas.{empty_adds}
 use Rattle.tera_statements.proofs.TemplatesLemmas.{empty_steps}
 use Rattle.tera_statements.proofs.templates.item_phase.Goals as goal
@@ -32,3 +34,13 @@ returns-in_err-add-clause-empty c =
     let (i, read, shows, turned) = rw c.in-Some.is at c.in_ok-added.ensures.gives in
     rw p.1 (λ empty. c.in_err-add.ensures.nothing (shows ∙ empty_adds l (body (top_depth l) l) [] (seen_of c.args.names.now) false c.args.cursor.now.left i _ empty
     (sym (empty_steps l (phase_of c.args.phase) (here c.args.names.now c.args.cursor.now) empty) ∙ read)))
+
+pub returns-in_err-added-clause-refusal : goal.returns-in_err-added-clause-refusal
+returns-in_err-added-clause-refusal c =
+    let p = err_from_is_err_and c.from_residual.result c.from_residual.ensures.1 in
+    rw (p.1, p.2) c.in_err-added.ensures.refusal
+
+pub returns-in_err-add-clause-refusal : goal.returns-in_err-add-clause-refusal
+returns-in_err-add-clause-refusal c =
+    let p = err_from_is_err_and c.from_residual-in_err-add.result c.from_residual-in_err-add.ensures.1 in
+    rw (p.1, p.2) (memory_inside_knowing (located_of c.args.names.now.components) _ _ _ c.in_err-add.ensures.refusal)

@@ -5,6 +5,8 @@ use Rattle.tera_grammar.specs.statements.Reading.Loops.{turn, weight}
 use Rattle.tera_statements.specs.Adding.{here, seen_of}
 use Rattle.tera_expr_parts.specs.Allowed.{limits_of}
 use Rattle.tera_statements.specs.Templates.{top_depth, phase_if_any, phase_of}
+use Rattle.tera_statements.specs.Known.{located_of}
+use Rattle.tera_statements.proofs.KnowingLemmas.{inside_knowing}
 use Rattle.tera_statements.proofs.RefusalLemmas.{empty_adds, silent_turns}
 use Rattle.tera_statements.proofs.TemplatesLemmas.{fails_excluded, step_fails, turn_excluded}
 use Rattle.tera_statements.proofs.templates.next_item.Goals as goal
@@ -43,7 +45,7 @@ pub returns-in_default-following-clause-refusal : goal.returns-in_default-follow
 returns-in_default-following-clause-refusal c =
     let took = rw c.in_ok-refuse_extends.ensures.stays at (rw c.in-Some.is at c.in_ok-added.ensures.later) in
     let represents = rw c.in_ok-refuse_extends.ensures.stays at c.next_place-first.ensures in
-    c.ignored.ensures c.args.cursor.now took represents
+    inside_knowing (located_of c.args.names.now.components) _ _ _ (c.ignored.ensures c.args.cursor.now took represents)
 
 pub returns-in_err-added-clause-empty : goal.returns-in_err-added-clause-empty
 returns-in_err-added-clause-empty c =
@@ -58,3 +60,14 @@ returns-in_default-following-clause-empty c = λ empty.
     let nothing = empty_adds l (body (top_depth l) l) [] (seen_of c.args.names.now) false c.args.cursor.now.left i _ empty read in
     let turned = ap (turn (phase_of c.args.phase)) (sym (c.weigh.ensures ∙ ap weight shows)) ∙ sym c.following.ensures ∙ ap phase_if_any c.in_default-following.is in
     silent_turns (phase_of c.args.phase) (ap (λ a. turn (phase_of c.args.phase) (weight a)) (sym nothing) ∙ turned)
+
+pub returns-in_err-refuse_extends-clause-refusal : goal.returns-in_err-refuse_extends-clause-refusal
+returns-in_err-refuse_extends-clause-refusal c =
+    let p = err_from_is_err_and c.from_residual.result c.from_residual.ensures.1 in
+    rw (p.1, p.2) (inside_knowing (located_of c.args.names.now.components) _ _ _ c.in_err-refuse_extends.ensures.refusal)
+
+pub returns-in_err-added-clause-refusal : goal.returns-in_err-added-clause-refusal
+returns-in_err-added-clause-refusal c =
+    let p = err_from_is_err_and c.from_residual-in_err-added.result c.from_residual-in_err-added.ensures.1 in
+    let refused = rw c.in_ok-refuse_extends.ensures.stays at c.in_err-added.ensures.refusal in
+    rw (p.1, p.2) refused

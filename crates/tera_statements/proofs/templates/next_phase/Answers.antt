@@ -1,6 +1,8 @@
 use Rattle.tera_expr_parts.specs.Allowed.{limits_of}
 use Rattle.tera_statements.specs.Adding.{seen_of}
 use Rattle.tera_tree.specs.Outputs.{output_view}
+use Rattle.tera_statements.specs.Known.{located_of}
+use Rattle.tera_statements.proofs.KnowingLemmas.{inside_knowing_err}
 use Rattle.tera_statements.proofs.TemplatesLemmas.{text_empty, text_gives, text_goes}
 use Rattle.tera_statements.proofs.templates.next_phase.Goals as goal
 
@@ -10,7 +12,8 @@ returns-in-Some-clause-gives c =
     (seen_of c.args.names.now) c.args.cursor.now.left c.eat_text.new.cursor.left c.in-Some.text.now c.eat_text.new.cursor.span c.in-Some.ensures.0 c.text_phase.ensures.gives
 
 pub returns-in-Some-clause-refusal : goal.returns-in-Some-clause-refusal
-returns-in-Some-clause-refusal c = c.text_phase.ensures.refusal c.args.cursor.now c.in-Some.ensures.1
+returns-in-Some-clause-refusal c =
+    inside_knowing_err c.text_phase.result (located_of c.args.names.now.components) c.args.cursor.now _ (c.text_phase.ensures.refusal c.args.cursor.now c.in-Some.ensures.1)
 
 pub returns-in-Some-clause-empty : goal.returns-in-Some-clause-empty
 returns-in-Some-clause-empty c =

@@ -2,6 +2,7 @@ use Rattle.std.proofs.Common.{◌∙◌, [], false, ap, refl, subst, sym}
 use Rattle.std.proofs.lemmas.Result.{err_from_is_err_and}
 use Rattle.tera_lexer.specs.code.Cursors.{Position, is_end}
 use Rattle.tera_grammar.specs.statements.Reading.{Place, at, body}
+use Rattle.tera_grammar.specs.statements.Reading.Meeting.{Seen}
 use Rattle.tera_grammar.specs.statements.Reading.Phases.{Starting}
 use Rattle.tera_grammar.proofs.statements.Loops.{topping_ends, topping_left, topping_on, topping_starts}
 use Rattle.tera_statements.specs.Adding.{here, seen_of}
@@ -9,7 +10,11 @@ use Rattle.tera_expr_parts.specs.Allowed.{limits_of}
 use Rattle.tera_expect.specs.Taking.{GoesOn}
 use Rattle.tera_statements.specs.Templates.{top_depth, phase_of}
 use Rattle.tera_tree.specs.Outputs.{output_view}
+use Rattle.tera_statements.specs.Known.{located_of}
+use Rattle.tera_expect.proofs.NotesLemmas.{goes_left, took_left}
 use Rattle.tera_expect.proofs.TakingLemmas.{took_size, goes_further, stays, took_goes}
+use Rattle.tera_statements.proofs.CameLemmas.{came_on, none_came}
+use Rattle.tera_statements.proofs.KnowingLemmas.{known_inside}
 use Rattle.tera_statements.proofs.RefusalLemmas.{empty_ends, goes_empty, goes_inside, not_both}
 use Rattle.tera_statements.proofs.TemplatesLemmas.{empty_steps, excluded_fails, opens}
 use Rattle.tera_statements.proofs.Tags.{stops_there}
@@ -23,6 +28,7 @@ items-init c =
       top = topping_starts l (top_depth l) (opens l c.args.setting.now.valid) ts (here c.new-names.result c.args.cursor.now) (output_view c.empty-output.result) Starting
           c.empty-output.ensures (ap (λ n. at n ts) c.new-names.ensures) refl;
       later = stays c.args.cursor.now;
+      came = none_came (located_of c.new-names.result.components) ts ts (ap (λ (s : Seen). s.components) c.new-names.ensures);
     }
 
 pub returns-in_err-next-clause-gives : goal.returns-in_err-next-clause-gives
@@ -41,6 +47,8 @@ items-preserved c =
           i (here c.next_phase.new.names c.next_phase.new.cursor) (output_view c.next_phase.new.output) c.items.invariant.top read
           shows (phase_of c.in-Some.next) turned;
       later = goes_further _ _ _ c.items.invariant.later (took_goes _ _ took);
+      came = came_on l (top_depth l) (phase_of c.items.phase) (here c.items.names c.items.cursor) (here c.next_phase.new.names c.next_phase.new.cursor) i c.args.cursor.now.left read
+          (took_left _ _ took) (goes_left _ _ c.items.invariant.later) c.items.invariant.came;
     }
 
 pub items-smaller : goal.items-smaller
@@ -84,3 +92,8 @@ returns-then-not-at_end-clause-empty c = λ empty.
     (sym (empty_steps l (phase_of c.items.phase) (here c.items.names c.items.cursor) quiet) ∙ none.0) in
     let left = ap (λ (p : Place). is_end p.tokens) (sym none.1) ∙ sym c.at_end.ensures ∙ c.if-not-at_end.true in
     not_both (sym ended ∙ left)
+
+pub returns-in_err-next-clause-refusal : goal.returns-in_err-next-clause-refusal
+returns-in_err-next-clause-refusal c =
+    let p = err_from_is_err_and c.from_residual.result c.from_residual.ensures.1 in
+    rw (p.1, p.2) (known_inside (located_of c.items.names.components) c.args.cursor.now _ _ _ c.items.invariant.later c.items.invariant.came c.in_err-next.ensures.refusal)
