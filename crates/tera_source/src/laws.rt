@@ -83,3 +83,10 @@ pub fn one_text()
     ensures { (one other : Expr) → placeless one ≡ placeless other →
         source_text one ≡ source_text other }
 {}
+
+/// Expressions that are printed back, as those of a source are, have one source text only where they are the same apart
+/// from places.
+pub fn texts_tell_apart()
+    ensures { (limits : Limits) (one other : Expr) → PrintsBack limits one → PrintsBack limits other →
+        source_text one ≡ source_text other → placeless one ≡ placeless other }
+{}

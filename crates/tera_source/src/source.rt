@@ -6,8 +6,10 @@ ghost use Rattle.tera_grammar.specs.expressions.Concrete.{Tree};
 ghost use Rattle.tera_grammar.specs.expressions.Output.{output};
 ghost use Rattle.tera_ast.specs.View.{expression_view};
 ghost use Rattle.tera_source.specs.Bodies.{has_body};
+ghost use Rattle.tera_source.specs.Contexts.{free};
 ghost use Rattle.tera_source.specs.Source.{source_text};
 ghost use Rattle.tera_source.specs.Writable.{IsWritable};
+ghost use Rattle.tera_source.specs.Writing.{written};
 
 use crate::context::Context;
 use crate::refusal::Refusal;
@@ -27,6 +29,8 @@ pub fn source_of(alloc: Global, expression: &Expression) -> Result<String, Error
     ensures read { (in_loop : Bool) (t : Tree) → expression_view expression.now ≡ output in_loop t →
         MatchResult result
         (λ text. string_bytes text ≡ source_text (expression_view expression.now)) IsMemory }
+    ensures written { IfOk result (λ text.
+        string_bytes text ≡ written (expression_view expression.now) free) }
     ensures bodiless { IfOk result (λ _. has_body (expression_view expression.now) ≡ false) }
     ensures message { IfErr result
         (Says (codes "A component call with a body has no expression text")) }
