@@ -166,8 +166,12 @@ fn why_unlisted(
 
 // That no template was found, and what was looked for.
 fn without_templates(alloc: Global, common: Common<'_, '_>) -> Result<String, AllocError> {
+    let extensions = extensions_of(alloc, common)?;
+    if extensions.is_empty() {
+        return String::from_str(alloc, "no template is below this folder: `extensions` is empty");
+    }
     let mut why = String::from_str(alloc, "no template is below this folder: no name ends in ")?;
-    for (number, extension) in extensions_of(alloc, common)?.iter().enumerate() {
+    for (number, extension) in extensions.iter().enumerate() {
         why.push_str(if number == 0 { "." } else { " or ." })?;
         why.push_str(extension)?;
     }

@@ -55,7 +55,8 @@ fn name_of<R: Files + AllocGlobal>(
     }
 }
 
-fn folder_of(path: Path<'_>) -> &str {
+/// The folder in which a file is.
+pub(crate) fn folder_of(path: Path<'_>) -> &str {
     match path.parent() {
         Some(folder) if folder.as_str() != "" => folder.as_str(),
         _ => ".",
@@ -105,9 +106,27 @@ fn add_others<R: Files + AllocGlobal>(
 
 // Whether there may be a file of this name below the root: unless it is a folder, or it is known that there is none.
 fn may_be<R: Files + AllocGlobal>(rt: &R, root: &str, name: &str) -> Result<bool, AllocError> {
+    if !is_name(name) {
+        return Ok(false);
+    }
     let path = Path::new(root).join(rt.alloc(), name)?;
     match fs::metadata(rt, path.as_path()) {
         Ok(data) => Ok(!data.is_dir()),
-        Err(error) => Ok(error.kind() != io::ErrorKind::NotFound),
+        Err(error) if error.kind() == io::ErrorKind::OutOfMemory => Err(AllocError),
+        Err(error) => Ok(!is_absent(error)),
     }
+}
+
+// Whether a file below the root can have the name. `./a.html` and `/a.html` are paths of files, and are not names.
+fn is_name(name: &str) -> bool {
+    !name
+        .split('/')
+        .any(|part| part.is_empty() || part == "." || part == "..")
+}
+
+fn is_absent(error: io::Error) -> bool {
+    matches!(
+        error.kind(),
+        io::ErrorKind::NotFound | io::ErrorKind::NotADirectory | io::ErrorKind::InvalidFilename
+    )
 }
