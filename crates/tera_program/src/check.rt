@@ -103,17 +103,17 @@ fn read_site<R: Files + Input + Eprint + AllocGlobal + Clone + Drop>(
     Ok(all)
 }
 
-// The paths of the library, and the root.
+// The root, and the paths of the library, as the components of the site count before those of others.
 fn with_root<'a>(
     alloc: Global,
     library: Option<&[&'a str]>,
     root: &'a str,
 ) -> Result<Vec<&'a str>, AllocError> {
     let mut paths = Vec::new(alloc);
+    paths.push(root)?;
     if let Some(library) = library {
         paths.extend_from_slice(library)?;
     }
-    paths.push(root)?;
     Ok(paths)
 }
 
