@@ -3,8 +3,8 @@
 ghost use Rattle.std.specs.Prelude.{◌≡◌, ◌++◌, [], ◌∷◌, map, string_bytes, IfOk, OnOk};
 ghost use Rattle.std.specs.Option.{option_map};
 ghost use Rattle.json.specs.Layout.{pretty};
+ghost use Rattle.json_members.specs.Members.{text_member, number_member};
 ghost use Rattle.tera_base.specs.ValueView.{value_view};
-ghost use Rattle.tera_check.specs.Objects.{text_member, number_member};
 ghost use Rattle.tera_tree.specs.Definitions.{named_value};
 ghost use Rattle.tera_tree.specs.Infos.{arg_view, shown_type_name};
 ghost use Rattle.tera_catalogue.specs.Listed.{listed_view};

@@ -10,7 +10,6 @@ pub mod HintsLemmas
 pub mod JudgedLemmas
 pub mod ParametersLemmas
 pub mod PassedLemmas
-pub mod ObjectsLemmas
 pub mod Pending
 pub mod PlaceLemmas
 pub mod ReadLemmas

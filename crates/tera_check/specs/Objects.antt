@@ -1,36 +1,22 @@
 -- The objects of JSON that are written of findings.
 use Rattle.std.specs.Prelude.{ℕ, List, [], ◌∷◌, ◌++◌, codes}
-use Rattle.std.specs.Fmt.{decimal}
 use Rattle.std.specs.List.{flat_map}
-use Rattle.json.specs.Token.{Token, begin_object, end_object, begin_array, end_array, key, string, number}
+use Rattle.json.specs.Token.{Token, begin_object, end_object, begin_array, end_array, key}
+use Rattle.json_members.specs.Members.{text_member, number_member}
 use Rattle.tera_base.specs.declared.utils.Span.{Span}
-use Rattle.tera_check.specs.declared.finding.Place.{Place}
 use Rattle.tera_check.specs.declared.finding.Severity.{Severity}
 use Rattle.tera_check.specs.declared.finding.Severity.TheVariants.{Error}
 use Rattle.tera_check.specs.Findings.{place_of, end_of, first_span, kind_name, severity_of, severity_name}
 use Rattle.tera_check.specs.Findings.{NoteVal, NoteOf, FindingVal, FindingOf}
 
--- a member with a text, and one with a number
-abbrev pub text_member : List ℕ → List ℕ → List Token
-text_member name text = key name ∷ string text ∷ []
-
-abbrev pub number_member : List ℕ → ℕ → List Token
-number_member name n = key name ∷ number (decimal n) ∷ []
-
--- a place, by the names of its line and of its column
-abbrev pub corner : List ℕ → List ℕ → Place → List Token
-corner line column place = number_member line place.line ++ number_member column place.column
-
--- where a span begins and ends
-unfoldable pub place_members : Span → List Token
-place_members span =
-    corner (codes "line") (codes "column") (place_of span)
-    ++ corner (codes "end_line") (codes "end_column") (end_of span)
-
--- the members that a finding and a note have
+-- the members that a finding and a note have: the file, where the span begins and ends, and the text
 unfoldable pub members : List ℕ → Span → List ℕ → List Token
 members file span text =
-    text_member (codes "file") file ++ (place_members span ++ text_member (codes "message") text)
+    text_member (codes "file") file
+    ++ (number_member (codes "line") (place_of span).line
+    ++ (number_member (codes "column") (place_of span).column
+    ++ (number_member (codes "end_line") (end_of span).line
+    ++ (number_member (codes "end_column") (end_of span).column ++ text_member (codes "message") text))))
 
 abbrev pub note_object : NoteVal → List Token
 note_object (NoteOf file span text) = (begin_object ∷ []) ++ (members file span text ++ (end_object ∷ []))
@@ -38,15 +24,12 @@ note_object (NoteOf file span text) = (begin_object ∷ []) ++ (members file spa
 abbrev pub notes_member : List NoteVal → List Token
 notes_member notes = key (codes "notes") ∷ begin_array ∷ (flat_map note_object notes ++ end_array ∷ [])
 
--- how grave it is, and the word for its kind
-abbrev pub kind_members : Severity → List ℕ → List Token
-kind_members severity word =
-    text_member (codes "severity") (severity_name severity) ++ text_member (codes "kind") word
-
+-- an object also has how grave it is, and the word for its kind
 unfoldable pub object_with : List ℕ → Span → List ℕ → Severity → List ℕ → List NoteVal → List Token
 object_with file span text severity word notes =
-    (begin_object ∷ [])
-    ++ (members file span text ++ (kind_members severity word ++ (notes_member notes ++ (end_object ∷ []))))
+    begin_object ∷ (members file span text
+    ++ (text_member (codes "severity") (severity_name severity)
+    ++ (text_member (codes "kind") word ++ (notes_member notes ++ end_object ∷ []))))
 
 -- the tokens of the object of a finding in a file
 abbrev pub object_of : List ℕ → FindingVal → List Token

@@ -52,6 +52,7 @@ pub use finding::{Finding, KINDS, Kind, Note, Place, Severity};
 pub use found::{Found, all_found};
 pub use mended::Mended;
 pub use objects::{object_of, put_object, unread_object_of};
+pub use spans::first_span;
 pub use templates::{
     Template, definitions_of, is_open, read_template, read_template_between, tree_of,
 };

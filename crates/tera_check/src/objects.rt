@@ -1,14 +1,15 @@
 //! Findings as objects of JSON.
 
-ghost use Rattle.std.specs.Prelude.{◌≡◌, ◌++◌, [], ◌∷◌, map, IfOk, OnOk};
-ghost use Rattle.std.specs.List.{flat_map};
+ghost use Rattle.std.specs.Prelude.{◌≡◌, ◌++◌, [], ◌∷◌, map, IfOk};
 ghost use Rattle.json.specs.Print.{print};
+ghost use Rattle.json_members.specs.Written.{Puts};
 ghost use Rattle.tera_check.specs.Findings.{finding_view, note_view};
-ghost use Rattle.tera_check.specs.Objects.{text_member, number_member, corner, place_members, members, note_object, notes_member, kind_members, object_with, object_of, unread_object};
+ghost use Rattle.tera_check.specs.Objects.{members, note_object, notes_member, object_with, object_of, unread_object};
 
 use crate::finding::{Finding, Note, Place, Severity};
 use crate::spans::first_span;
 use json::Writer;
+use json_members::{put_number, put_text};
 use std::alloc::{AllocError, Global};
 use tera_parser::value::Span;
 
@@ -27,9 +28,7 @@ pub fn object_of(alloc: Global, file: &str, finding: &Finding) -> Result<Vec<u8>
 
 /// Adds the object of the finding to other JSON.
 pub fn put_object(writer: &mut Writer, file: &str, finding: &Finding) -> Result<(), AllocError>
-    ensures tokens { OnOk result (writer.new.tokens ≡ writer.old.tokens
-        ++ object_of file.now (finding_view finding.now)) }
-    ensures before { writer.new.before ≡ writer.old.before }
+    ensures { Puts result writer.old writer.new (object_of file.now (finding_view finding.now)) }
 {
     let (message, notes) = (finding.message.as_str(), &finding.notes);
     let (severity, word) = (finding.kind.severity(), finding.kind.name());
@@ -59,30 +58,20 @@ fn put_with(
     word: &str,
     notes: &Vec<Note>,
 ) -> Result<(), AllocError>
-    ensures tokens { OnOk result (writer.new.tokens ≡ writer.old.tokens ++ object_with file.now
-        span.now message.now severity word.now (map note_view notes.now.items)) }
-    ensures before { writer.new.before ≡ writer.old.before }
+    ensures { Puts result writer.old writer.new
+        (object_with file.now span.now message.now severity word.now
+        (map note_view notes.now.items)) }
 {
     writer.begin_object()?;
     write_members(writer, file, span, message)?;
-    write_kind(writer, severity, word)?;
+    put_text(writer, "severity", severity.name())?;
+    put_text(writer, "kind", word)?;
     write_notes(writer, notes)?;
     writer.end_object()
 }
 
-fn write_kind(writer: &mut Writer, severity: Severity, word: &str) -> Result<(), AllocError>
-    ensures tokens { OnOk result (writer.new.tokens
-        ≡ writer.old.tokens ++ kind_members severity word.now) }
-    ensures before { writer.new.before ≡ writer.old.before }
-{
-    write_text(writer, "severity", severity.name())?;
-    write_text(writer, "kind", word)
-}
-
 fn write_notes(writer: &mut Writer, notes: &Vec<Note>) -> Result<(), AllocError>
-    ensures tokens { OnOk result (writer.new.tokens ≡ writer.old.tokens
-        ++ notes_member (map note_view notes.now.items)) }
-    ensures before { writer.new.before ≡ writer.old.before }
+    ensures { Puts result writer.old writer.new (notes_member (map note_view notes.now.items)) }
 {
     writer.key("notes")?;
     writer.begin_array()?;
@@ -93,9 +82,7 @@ fn write_notes(writer: &mut Writer, notes: &Vec<Note>) -> Result<(), AllocError>
 }
 
 fn write_note(writer: &mut Writer, note: &Note) -> Result<(), AllocError>
-    ensures tokens { OnOk result (writer.new.tokens
-        ≡ writer.old.tokens ++ note_object (note_view note.now)) }
-    ensures before { writer.new.before ≡ writer.old.before }
+    ensures { Puts result writer.old writer.new (note_object (note_view note.now)) }
 {
     writer.begin_object()?;
     write_members(
@@ -114,53 +101,14 @@ fn write_members(
     span: &Span,
     message: &str,
 ) -> Result<(), AllocError>
-    ensures tokens { OnOk result (writer.new.tokens
-        ≡ writer.old.tokens ++ members file.now span.now message.now) }
-    ensures before { writer.new.before ≡ writer.old.before }
+    ensures { Puts result writer.old writer.new (members file.now span.now message.now) }
 {
-    write_text(writer, "file", file)?;
-    write_places(writer, span)?;
-    write_text(writer, "message", message)?;
-    Ok(())
-}
-
-#[tactic(auto, unfolding(crate::specs::Objects::place_members))]
-fn write_places(writer: &mut Writer, span: &Span) -> Result<(), AllocError>
-    ensures tokens { OnOk result (writer.new.tokens ≡ writer.old.tokens ++ place_members span.now) }
-    ensures before { writer.new.before ≡ writer.old.before }
-{
-    write_corner(writer, "line", "column", Place::of(span))?;
-    write_corner(writer, "end_line", "end_column", Place::end_of(span))
-}
-
-fn write_corner(
-    writer: &mut Writer,
-    line: &str,
-    column: &str,
-    place: Place,
-) -> Result<(), AllocError>
-    ensures tokens { OnOk result (writer.new.tokens
-        ≡ writer.old.tokens ++ corner line.now column.now place) }
-    ensures before { writer.new.before ≡ writer.old.before }
-{
-    write_number(writer, line, place.line)?;
-    write_number(writer, column, place.column)
-}
-
-fn write_text(writer: &mut Writer, name: &str, text: &str) -> Result<(), AllocError>
-    ensures tokens { OnOk result (writer.new.tokens
-        ≡ writer.old.tokens ++ text_member name.now text.now) }
-    ensures before { writer.new.before ≡ writer.old.before }
-{
-    writer.key(name)?;
-    writer.string(text)
-}
-
-fn write_number(writer: &mut Writer, name: &str, number: usize) -> Result<(), AllocError>
-    ensures tokens { OnOk result (writer.new.tokens
-        ≡ writer.old.tokens ++ number_member name.now number) }
-    ensures before { writer.new.before ≡ writer.old.before }
-{
-    writer.key(name)?;
-    writer.u64(number as u64)
+    let start = Place::of(span);
+    let end = Place::end_of(span);
+    put_text(writer, "file", file)?;
+    put_number(writer, "line", start.line)?;
+    put_number(writer, "column", start.column)?;
+    put_number(writer, "end_line", end.line)?;
+    put_number(writer, "end_column", end.column)?;
+    put_text(writer, "message", message)
 }

@@ -38,7 +38,7 @@ fn span_named(names: &Names, name: &str) -> Span
 }
 
 /// The span of nothing, where a file begins.
-pub(crate) fn first_span() -> Span
+pub fn first_span() -> Span
     ensures { result ≡ first_span }
 {
     Span {

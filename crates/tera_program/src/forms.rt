@@ -2,6 +2,7 @@
 
 ghost use Rattle.std.specs.Prelude.{◌≡◌, ◌++◌, ◌∷◌, [], ℕ, List, IfOk, OnOk, map};
 ghost use Rattle.json.specs.Print.{print};
+ghost use Rattle.json_members.specs.Written.{Puts};
 ghost use Rattle.std.specs.List.{flat_map};
 ghost use Rattle.tera_check.specs.Findings.{finding_view};
 ghost use Rattle.tera_report.specs.Logs.{result_object};
@@ -170,9 +171,8 @@ fn log_of(alloc: Global, unread: &[Unreadable], all: &[Found<'_>]) -> Result<Vec
 }
 
 fn put_all_unread(alloc: Global, out: &mut Writer, unread: &[Unreadable]) -> Result<(), AllocError>
-    ensures tokens { OnOk result (out.new.tokens ≡ out.old.tokens
-        ++ flat_map (of_unread unread_result) (map unreadable_view unread.now)) }
-    ensures before { out.new.before ≡ out.old.before }
+    ensures { Puts result out.old out.new
+        (flat_map (of_unread unread_result) (map unreadable_view unread.now)) }
 {
     for one in unread {
         put_unread(alloc, out, one.file.as_str(), one.why.as_str())?;
@@ -181,9 +181,8 @@ fn put_all_unread(alloc: Global, out: &mut Writer, unread: &[Unreadable]) -> Res
 }
 
 fn put_all(alloc: Global, out: &mut Writer, all: &[Found<'_>]) -> Result<(), AllocError>
-    ensures tokens { OnOk result (out.new.tokens ≡ out.old.tokens
-        ++ flat_map (of_each result_object) (map found_view all.now)) }
-    ensures before { out.new.before ≡ out.old.before }
+    ensures { Puts result out.old out.new
+        (flat_map (of_each result_object) (map found_view all.now)) }
 {
     for found in all {
         put_results(alloc, out, found.file, &found.findings)?;
@@ -197,9 +196,8 @@ fn put_results(
     file: &str,
     findings: &Vec<Finding>,
 ) -> Result<(), AllocError>
-    ensures tokens { OnOk result (out.new.tokens ≡ out.old.tokens
-        ++ flat_map (result_object file.now) (map finding_view findings.now.items)) }
-    ensures before { out.new.before ≡ out.old.before }
+    ensures { Puts result out.old out.new
+        (flat_map (result_object file.now) (map finding_view findings.now.items)) }
 {
     for finding in findings {
         put_result(alloc, out, file, finding)?;

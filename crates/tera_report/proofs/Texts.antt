@@ -10,11 +10,3 @@ one_more f xs x = flat_map-append f xs (x ∷ []) ∙ ap (λ l. flat_map f xs ++
 -- a list that grew, and grew again
 pub following : {A : Type 0} (a b c x y : List A) → b ≡ a ++ x → c ≡ b ++ y → c ≡ a ++ (x ++ y)
 following a b c x y e f = f ∙ ap (λ l. l ++ y) e ∙ append_assoc a x y
-
--- .. three times and four times
-pub three : {A : Type 0} (start now next last a b c : List A) → now ≡ start ++ a → next ≡ now ++ b → last ≡ next ++ c → last ≡ start ++ (a ++ (b ++ c))
-three start now next last a b c first second third = following start now last a (b ++ c) first (following now next last b c second third)
-
-pub four : {A : Type 0} (start now next more last a b c d : List A) → now ≡ start ++ a → next ≡ now ++ b → more ≡ next ++ c → last ≡ more ++ d → last ≡ start ++ (a ++ (b ++ (c ++ d)))
-four start now next more last a b c d first second third fourth =
-    following start now last a (b ++ (c ++ d)) first (three now next more last b c d second third fourth)

@@ -2,7 +2,7 @@
 use Rattle.std.specs.Prelude.{◌≡◌, ℕ, Bool, true, false, List, [], ◌∷◌, ◌++◌, Option, None, Some, Result, Ok, Err, codes, map, option_map, string_bytes}
 use Rattle.std.specs.List.{flat_map}
 use Rattle.json.specs.Print.{print}
-use Rattle.json.specs.Token.{Token, key, boolean, null}
+use Rattle.json.specs.Token.{Token, begin_object, end_object, key, boolean, null}
 use Rattle.json.specs.Tree.{json_tokens}
 use Rattle.tera_base.specs.declared.errors.Error.{Error}
 use Rattle.tera_check.specs.FaultFindings.{AreFaultsOf}
@@ -17,7 +17,7 @@ use Rattle.tera_tree.specs.Outputs.{output_view}
 use Rattle.tera_tree.specs.Tree.{Output}
 use Rattle.tera_tree.specs.declared.outputs.ParserOutput.{ParserOutput}
 use Rattle.tera_tree_json.specs.TreeJson.{output_json}
-use Rattle.tera_report.specs.Logs.{array_member, object}
+use Rattle.tera_report.specs.Logs.{array_member}
 
 -- whether a template has more faults than are known of it: nothing is read of it beside its first fault, or the work was
 -- cut short
@@ -34,19 +34,15 @@ abbrev pub tree_tokens : Option Output → List Token
 tree_tokens None = null ∷ []
 tree_tokens (Some output) = json_tokens (output_json output)
 
-abbrev pub tree_member : Option Output → List Token
-tree_member tree = key (codes "tree") ∷ tree_tokens tree
-
 -- the findings of faults in a file
 abbrev pub faults_member : List ℕ → List FindingVal → List Token
 faults_member file faults = array_member (codes "faults") (flat_map (object_of file) faults)
 
-abbrev pub more_member : Bool → List Token
-more_member more = key (codes "more") ∷ boolean more ∷ []
-
 -- an object of a tree, the faults in a file, and whether there are more
 unfoldable pub tree_object : List ℕ → Option Output → List FindingVal → Bool → List Token
-tree_object file tree faults more = object (tree_member tree ++ (faults_member file faults ++ more_member more))
+tree_object file tree faults more =
+    begin_object ∷ key (codes "tree") ∷ (tree_tokens tree
+    ++ (faults_member file faults ++ (key (codes "more") ∷ boolean more ∷ end_object ∷ [])))
 
 -- a line of JSON: the tree that there is of a template, its faults in the order of their places, and whether there are more
 pub record IsTreeLine (template : Template) (text : List ℕ) : Type 0 where

@@ -1,41 +1,77 @@
 //! Findings as a log in SARIF 2.1.0, which services that show findings read.
 
-ghost use Rattle.std.specs.Prelude.{◌≡◌, ◌++◌, map, OnOk};
+ghost use Rattle.std.specs.Prelude.{map};
 ghost use Rattle.std.specs.List.{flat_map};
-ghost use Rattle.file_uris.specs.Encoding.{reference};
+ghost use Rattle.json_members.specs.Written.{Puts};
 ghost use Rattle.tera_check.specs.Findings.{finding_view, note_view};
-ghost use Rattle.tera_check.specs.Objects.{text_member, number_member};
-ghost use Rattle.tera_report.specs.Logs.{object_begin, array_begin, corner, region, artifact, place, message, object, locations, note_members, note_object, notes_member, kind_member, head, members, result_object, rule, rules, unread_rule, all_rules, names, driver, tool, form, run_begin, log_begin, log_end};
+ghost use Rattle.tera_report.specs.Logs.{array_begin, corner, place, message, locations, note_object, notes_member, result_object, rule, log_begin, log_end};
 
 use crate::github::column;
 use file_uris::reference_of;
-use json::Writer;
+use json::{Token, Writer};
+use json_members::{put_number, put_text, put_tokens};
 use std::alloc::{AllocError, Global};
 use tera_base::Span;
 use tera_check::{Finding, KINDS, Kind, Note};
 
 /// Begins a log of one run of the program, in this version of it.
 pub fn begin_log(out: &mut Writer, version: &str) -> Result<(), AllocError>
-    ensures tokens { OnOk result (out.new.tokens ≡ out.old.tokens ++ log_begin version.now) }
-    ensures before { out.new.before ≡ out.old.before }
+    ensures { Puts result out.old out.new (log_begin version.now) }
 {
-    out.begin_object()?;
-    put_form(out)?;
-    begin_array(out, "runs")?;
-    begin_run(out, version)?;
-    Ok(())
+    put_tokens(out, &BEFORE_THE_VERSION)?;
+    put_text(out, "version", version)?;
+    begin_array(out, "rules")?;
+    put_rules(out, &KINDS)?;
+    put_tokens(out, &AFTER_THE_RULES)
 }
 
+// The form of the log, its one run, and what finds.
+const BEFORE_THE_VERSION: [Token<'static>; 16] = [
+    Token::BeginObject,
+    Token::Key("$schema"),
+    Token::String("https://json.schemastore.org/sarif-2.1.0.json"),
+    Token::Key("version"),
+    Token::String("2.1.0"),
+    Token::Key("runs"),
+    Token::BeginArray,
+    Token::BeginObject,
+    Token::Key("columnKind"),
+    Token::String("unicodeCodePoints"),
+    Token::Key("tool"),
+    Token::BeginObject,
+    Token::Key("driver"),
+    Token::BeginObject,
+    Token::Key("name"),
+    Token::String("tera"),
+];
+
+// The rule of files that could not be read, and the beginning of the results.
+const AFTER_THE_RULES: [Token<'static>; 9] = [
+    Token::BeginObject,
+    Token::Key("id"),
+    Token::String("unread"),
+    Token::EndObject,
+    Token::EndArray,
+    Token::EndObject,
+    Token::EndObject,
+    Token::Key("results"),
+    Token::BeginArray,
+];
+
 /// Ends the log.
+#[tactic(auto, unfolding(crate::specs::Logs::log_end))]
 pub fn end_log(out: &mut Writer) -> Result<(), AllocError>
-    ensures tokens { OnOk result (out.new.tokens ≡ out.old.tokens ++ log_end) }
-    ensures before { out.new.before ≡ out.old.before }
+    ensures { Puts result out.old out.new log_end }
 {
-    out.end_array()?;
-    out.end_object()?;
-    out.end_array()?;
-    out.end_object()?;
-    Ok(())
+    put_tokens(
+        out,
+        &[
+            Token::EndArray,
+            Token::EndObject,
+            Token::EndArray,
+            Token::EndObject,
+        ],
+    )
 }
 
 /// Adds the result of a finding in the file. Its rule is the name of the kind; lines and columns count from 1, columns
@@ -47,96 +83,20 @@ pub fn put_result(
     file: &str,
     finding: &Finding,
 ) -> Result<(), AllocError>
-    ensures tokens { OnOk result (out.new.tokens
-        ≡ out.old.tokens ++ result_object file.now (finding_view finding.now)) }
-    ensures before { out.new.before ≡ out.old.before }
+    ensures { Puts result out.old out.new (result_object file.now (finding_view finding.now)) }
 {
     out.begin_object()?;
-    put_members(alloc, out, file, finding)?;
+    put_text(out, "ruleId", finding.kind.name())?;
+    put_text(out, "level", finding.kind.severity().name())?;
+    put_message(out, finding.message.as_str())?;
+    put_locations(alloc, out, file, &finding.span)?;
+    put_notes(alloc, out, &finding.notes)?;
     out.end_object()
 }
 
-fn put_form(out: &mut Writer) -> Result<(), AllocError>
-    ensures tokens { OnOk result (out.new.tokens ≡ out.old.tokens ++ form) }
-    ensures before { out.new.before ≡ out.old.before }
-{
-    put_text(
-        out,
-        "$schema",
-        "https://json.schemastore.org/sarif-2.1.0.json",
-    )?;
-    put_text(out, "version", "2.1.0")
-}
-
-fn begin_run(out: &mut Writer, version: &str) -> Result<(), AllocError>
-    ensures tokens { OnOk result (out.new.tokens ≡ out.old.tokens ++ run_begin version.now) }
-    ensures before { out.new.before ≡ out.old.before }
-{
-    out.begin_object()?;
-    put_text(out, "columnKind", "unicodeCodePoints")?;
-    put_tool(out, version)?;
-    begin_array(out, "results")?;
-    Ok(())
-}
-
-fn put_tool(out: &mut Writer, version: &str) -> Result<(), AllocError>
-    ensures tokens { OnOk result (out.new.tokens ≡ out.old.tokens ++ tool version.now) }
-    ensures before { out.new.before ≡ out.old.before }
-{
-    begin_object(out, "tool")?;
-    put_driver(out, version)?;
-    out.end_object()
-}
-
-fn put_driver(out: &mut Writer, version: &str) -> Result<(), AllocError>
-    ensures tokens { OnOk result (out.new.tokens ≡ out.old.tokens ++ driver version.now) }
-    ensures before { out.new.before ≡ out.old.before }
-{
-    begin_object(out, "driver")?;
-    put_names(out, version)?;
-    put_rules(out)?;
-    out.end_object()?;
-    Ok(())
-}
-
-fn put_names(out: &mut Writer, version: &str) -> Result<(), AllocError>
-    ensures tokens { OnOk result (out.new.tokens ≡ out.old.tokens ++ names version.now) }
-    ensures before { out.new.before ≡ out.old.before }
-{
-    put_text(out, "name", "tera")?;
-    put_text(out, "version", version)
-}
-
-fn put_rules(out: &mut Writer) -> Result<(), AllocError>
-    ensures tokens { OnOk result (out.new.tokens ≡ out.old.tokens ++ rules) }
-    ensures before { out.new.before ≡ out.old.before }
-{
-    begin_array(out, "rules")?;
-    put_all_rules(out)?;
-    out.end_array()
-}
-
-fn put_all_rules(out: &mut Writer) -> Result<(), AllocError>
-    ensures tokens { OnOk result (out.new.tokens ≡ out.old.tokens ++ all_rules) }
-    ensures before { out.new.before ≡ out.old.before }
-{
-    put_kinds(out, &KINDS)?;
-    put_unread_rule(out)
-}
-
-// The rule of files that could not be read.
-fn put_unread_rule(out: &mut Writer) -> Result<(), AllocError>
-    ensures tokens { OnOk result (out.new.tokens ≡ out.old.tokens ++ unread_rule) }
-    ensures before { out.new.before ≡ out.old.before }
-{
-    out.begin_object()?;
-    put_text(out, "id", "unread")?;
-    out.end_object()
-}
-
-fn put_kinds(out: &mut Writer, kinds: &[Kind]) -> Result<(), AllocError>
-    ensures tokens { OnOk result (out.new.tokens ≡ out.old.tokens ++ flat_map rule kinds.now) }
-    ensures before { out.new.before ≡ out.old.before }
+// An object with the name of each kind.
+fn put_rules(out: &mut Writer, kinds: &[Kind]) -> Result<(), AllocError>
+    ensures { Puts result out.old out.new (flat_map rule kinds.now) }
 {
     for kind in kinds {
         put_rule(out, *kind)?;
@@ -145,36 +105,11 @@ fn put_kinds(out: &mut Writer, kinds: &[Kind]) -> Result<(), AllocError>
 }
 
 fn put_rule(out: &mut Writer, kind: Kind) -> Result<(), AllocError>
-    ensures tokens { OnOk result (out.new.tokens ≡ out.old.tokens ++ rule kind) }
-    ensures before { out.new.before ≡ out.old.before }
+    ensures { Puts result out.old out.new (rule kind) }
 {
     out.begin_object()?;
-    put_kind(out, "id", kind)?;
+    put_text(out, "id", kind.name())?;
     out.end_object()
-}
-
-fn put_members(
-    alloc: Global,
-    out: &mut Writer,
-    file: &str,
-    finding: &Finding,
-) -> Result<(), AllocError>
-    ensures tokens { OnOk result (out.new.tokens
-        ≡ out.old.tokens ++ members file.now (finding_view finding.now)) }
-    ensures before { out.new.before ≡ out.old.before }
-{
-    put_head(out, finding.kind, finding.message.as_str())?;
-    put_locations(alloc, out, file, &finding.span)?;
-    put_notes(alloc, out, &finding.notes)
-}
-
-fn put_head(out: &mut Writer, kind: Kind, text: &str) -> Result<(), AllocError>
-    ensures tokens { OnOk result (out.new.tokens ≡ out.old.tokens ++ head kind text.now) }
-    ensures before { out.new.before ≡ out.old.before }
-{
-    put_kind(out, "ruleId", kind)?;
-    put_text(out, "level", kind.severity().name())?;
-    put_message(out, text)
 }
 
 pub(crate) fn put_locations(
@@ -183,102 +118,59 @@ pub(crate) fn put_locations(
     file: &str,
     span: &Span,
 ) -> Result<(), AllocError>
-    ensures tokens { OnOk result (out.new.tokens ≡ out.old.tokens ++ locations file.now span.now) }
-    ensures before { out.new.before ≡ out.old.before }
+    ensures { Puts result out.old out.new (locations file.now span.now) }
 {
-    begin_array(out, "locations")?;
-    put_location(alloc, out, file, span)?;
-    out.end_array()?;
-    Ok(())
-}
-
-fn put_location(alloc: Global, out: &mut Writer, file: &str, span: &Span) -> Result<(), AllocError>
-    ensures tokens { OnOk result (out.new.tokens
-        ≡ out.old.tokens ++ object (place file.now span.now)) }
-    ensures before { out.new.before ≡ out.old.before }
-{
-    out.begin_object()?;
+    put_tokens(
+        out,
+        &[
+            Token::Key("locations"),
+            Token::BeginArray,
+            Token::BeginObject,
+        ],
+    )?;
     put_place(alloc, out, file, span)?;
-    out.end_object()
+    put_tokens(out, &[Token::EndObject, Token::EndArray])
 }
 
 fn put_notes(alloc: Global, out: &mut Writer, notes: &Vec<Note>) -> Result<(), AllocError>
-    ensures tokens { OnOk result (out.new.tokens
-        ≡ out.old.tokens ++ notes_member (map note_view notes.now.items)) }
-    ensures before { out.new.before ≡ out.old.before }
+    ensures { Puts result out.old out.new (notes_member (map note_view notes.now.items)) }
 {
     begin_array(out, "relatedLocations")?;
-    put_note_objects(alloc, out, notes)?;
-    out.end_array()?;
-    Ok(())
-}
-
-fn put_note_objects(alloc: Global, out: &mut Writer, notes: &Vec<Note>) -> Result<(), AllocError>
-    ensures tokens { OnOk result (out.new.tokens
-        ≡ out.old.tokens ++ flat_map note_object (map note_view notes.now.items)) }
-    ensures before { out.new.before ≡ out.old.before }
-{
     for note in notes {
         put_note(alloc, out, note)?;
     }
-    Ok(())
+    out.end_array()
 }
 
 #[tactic(auto, unfolding(crate::specs::Logs::note_object))]
 fn put_note(alloc: Global, out: &mut Writer, note: &Note) -> Result<(), AllocError>
-    ensures tokens { OnOk result (out.new.tokens
-        ≡ out.old.tokens ++ note_object (note_view note.now)) }
-    ensures before { out.new.before ≡ out.old.before }
+    ensures { Puts result out.old out.new (note_object (note_view note.now)) }
 {
     out.begin_object()?;
-    put_note_members(alloc, out, note)?;
+    put_place(alloc, out, note.file.as_str(), &note.span)?;
+    put_message(out, note.message.as_str())?;
     out.end_object()
 }
 
-fn put_note_members(alloc: Global, out: &mut Writer, note: &Note) -> Result<(), AllocError>
-    ensures tokens { OnOk result (out.new.tokens
-        ≡ out.old.tokens ++ note_members (note_view note.now)) }
-    ensures before { out.new.before ≡ out.old.before }
-{
-    put_place(alloc, out, note.file.as_str(), &note.span)?;
-    put_message(out, note.message.as_str())
-}
-
+// A span of a file.
 fn put_place(alloc: Global, out: &mut Writer, file: &str, span: &Span) -> Result<(), AllocError>
-    ensures tokens { OnOk result (out.new.tokens ≡ out.old.tokens ++ place file.now span.now) }
-    ensures before { out.new.before ≡ out.old.before }
-{
-    begin_object(out, "physicalLocation")?;
-    put_file(alloc, out, file)?;
-    put_region(out, span)?;
-    out.end_object()?;
-    Ok(())
-}
-
-fn put_file(alloc: Global, out: &mut Writer, file: &str) -> Result<(), AllocError>
-    ensures tokens { OnOk result (out.new.tokens
-        ≡ out.old.tokens ++ artifact (reference file.now)) }
-    ensures before { out.new.before ≡ out.old.before }
+    ensures { Puts result out.old out.new (place file.now span.now) }
 {
     let uri = reference_of(alloc, file)?;
-    put_artifact(out, uri.as_str())
-}
-
-fn put_artifact(out: &mut Writer, uri: &str) -> Result<(), AllocError>
-    ensures tokens { OnOk result (out.new.tokens ≡ out.old.tokens ++ artifact uri.now) }
-    ensures before { out.new.before ≡ out.old.before }
-{
-    begin_object(out, "artifactLocation")?;
-    put_text(out, "uri", uri)?;
-    out.end_object()?;
-    Ok(())
-}
-
-fn put_region(out: &mut Writer, span: &Span) -> Result<(), AllocError>
-    ensures tokens { OnOk result (out.new.tokens ≡ out.old.tokens ++ region span.now) }
-    ensures before { out.new.before ≡ out.old.before }
-{
-    begin_object(out, "region")?;
+    put_tokens(
+        out,
+        &[
+            Token::Key("physicalLocation"),
+            Token::BeginObject,
+            Token::Key("artifactLocation"),
+            Token::BeginObject,
+            Token::Key("uri"),
+            Token::String(uri.as_str()),
+            Token::EndObject,
+            Token::Key("region"),
+            Token::BeginObject,
+        ],
+    )?;
     put_corner(
         out,
         "startLine",
@@ -287,8 +179,7 @@ fn put_region(out: &mut Writer, span: &Span) -> Result<(), AllocError>
         span.start_col,
     )?;
     put_corner(out, "endLine", span.end_line, "endColumn", span.end_col)?;
-    out.end_object()?;
-    Ok(())
+    put_tokens(out, &[Token::EndObject, Token::EndObject])
 }
 
 // A line and a column, each by its name.
@@ -299,62 +190,24 @@ fn put_corner(
     column_name: &str,
     col: usize,
 ) -> Result<(), AllocError>
-    ensures tokens { OnOk result (out.new.tokens
-        ≡ out.old.tokens ++ corner line_name.now line column_name.now col) }
-    ensures before { out.new.before ≡ out.old.before }
+    ensures { Puts result out.old out.new (corner line_name.now line column_name.now col) }
 {
     put_number(out, line_name, line)?;
     put_number(out, column_name, column(col))
 }
 
 pub(crate) fn put_message(out: &mut Writer, text: &str) -> Result<(), AllocError>
-    ensures tokens { OnOk result (out.new.tokens ≡ out.old.tokens ++ message text.now) }
-    ensures before { out.new.before ≡ out.old.before }
+    ensures { Puts result out.old out.new (message text.now) }
 {
-    begin_object(out, "message")?;
+    put_tokens(out, &[Token::Key("message"), Token::BeginObject])?;
     put_text(out, "text", text)?;
     out.end_object()
 }
 
-fn put_kind(out: &mut Writer, name: &str, kind: Kind) -> Result<(), AllocError>
-    ensures tokens { OnOk result (out.new.tokens ≡ out.old.tokens ++ kind_member name.now kind) }
-    ensures before { out.new.before ≡ out.old.before }
-{
-    put_text(out, name, kind.name())
-}
-
-// A member that is an object.
-fn begin_object(out: &mut Writer, name: &str) -> Result<(), AllocError>
-    ensures tokens { OnOk result (out.new.tokens ≡ out.old.tokens ++ object_begin name.now) }
-    ensures before { out.new.before ≡ out.old.before }
-{
-    out.key(name)?;
-    out.begin_object()
-}
-
 // A member that is an array.
 pub(crate) fn begin_array(out: &mut Writer, name: &str) -> Result<(), AllocError>
-    ensures tokens { OnOk result (out.new.tokens ≡ out.old.tokens ++ array_begin name.now) }
-    ensures before { out.new.before ≡ out.old.before }
+    ensures { Puts result out.old out.new (array_begin name.now) }
 {
     out.key(name)?;
     out.begin_array()
-}
-
-pub(crate) fn put_text(out: &mut Writer, name: &str, text: &str) -> Result<(), AllocError>
-    ensures tokens { OnOk result (out.new.tokens
-        ≡ out.old.tokens ++ text_member name.now text.now) }
-    ensures before { out.new.before ≡ out.old.before }
-{
-    out.key(name)?;
-    out.string(text)
-}
-
-fn put_number(out: &mut Writer, name: &str, number: usize) -> Result<(), AllocError>
-    ensures tokens { OnOk result (out.new.tokens
-        ≡ out.old.tokens ++ number_member name.now number) }
-    ensures before { out.new.before ≡ out.old.before }
-{
-    out.key(name)?;
-    out.u64(number as u64)
 }

@@ -1,15 +1,15 @@
 //! A tree beside faults, as JSON.
 
-ghost use Rattle.std.specs.Prelude.{◌≡◌, ◌++◌, map, option_map, string_bytes, IfOk, OnOk};
-ghost use Rattle.std.specs.List.{flat_map};
+ghost use Rattle.std.specs.Prelude.{◌≡◌, map, option_map, string_bytes, IfOk};
+ghost use Rattle.json_members.specs.Written.{Puts};
 ghost use Rattle.tera_check.specs.Findings.{finding_view};
 ghost use Rattle.tera_check.specs.Named.{tree_of};
-ghost use Rattle.tera_check.specs.Objects.{object_of};
 ghost use Rattle.tera_tree.specs.Outputs.{output_view};
-ghost use Rattle.tera_report.specs.Trees.{IsTreeLine, faults_member, has_more, more_member, tree_member, tree_object};
+ghost use Rattle.tera_report.specs.Trees.{IsTreeLine, faults_member, has_more, tree_object, tree_tokens};
 
 use crate::sarif::begin_array;
-use json::Writer;
+use json::{Token, Writer};
+use json_members::put_tokens;
 use std::alloc::{AllocError, Global};
 use tera_check::{Finding, Template, faults_of, put_object, tree_of};
 use tera_tree_json::put_tree;
@@ -34,38 +34,27 @@ fn put_tree_object(
     template: &Template,
     faults: &Vec<Finding>,
 ) -> Result<(), AllocError>
-    ensures tokens { OnOk result (out.new.tokens ≡ out.old.tokens
-        ++ tree_object (string_bytes template.now.file) (option_map output_view (tree_of template.now))
+    ensures { Puts result out.old out.new
+        (tree_object (string_bytes template.now.file) (option_map output_view (tree_of template.now))
         (map finding_view faults.now.items) (has_more template.now)) }
-    ensures before { out.new.before ≡ out.old.before }
 {
-    out.begin_object()?;
-    put_members(out, template, faults)?;
-    out.end_object()
-}
-
-fn put_members(
-    out: &mut Writer,
-    template: &Template,
-    faults: &Vec<Finding>,
-) -> Result<(), AllocError>
-    ensures tokens { OnOk result (out.new.tokens ≡ out.old.tokens
-        ++ (tree_member (option_map output_view (tree_of template.now))
-        ++ (faults_member (string_bytes template.now.file) (map finding_view faults.now.items)
-        ++ more_member (has_more template.now)))) }
-    ensures before { out.new.before ≡ out.old.before }
-{
-    put_tree_member(out, template)?;
+    put_tokens(out, &[Token::BeginObject, Token::Key("tree")])?;
+    put_tree_or_null(out, template)?;
     put_faults(out, template.file.as_str(), faults)?;
-    put_more(out, template)
+    put_tokens(
+        out,
+        &[
+            Token::Key("more"),
+            Token::Bool(has_more(template)),
+            Token::EndObject,
+        ],
+    )
 }
 
-fn put_tree_member(out: &mut Writer, template: &Template) -> Result<(), AllocError>
-    ensures tokens { OnOk result (out.new.tokens
-        ≡ out.old.tokens ++ tree_member (option_map output_view (tree_of template.now))) }
-    ensures before { out.new.before ≡ out.old.before }
+fn put_tree_or_null(out: &mut Writer, template: &Template) -> Result<(), AllocError>
+    ensures { Puts result out.old out.new
+        (tree_tokens (option_map output_view (tree_of template.now))) }
 {
-    out.key("tree")?;
     match tree_of(template) {
         Some(output) => put_tree(out, output),
         None => out.null(),
@@ -73,32 +62,14 @@ fn put_tree_member(out: &mut Writer, template: &Template) -> Result<(), AllocErr
 }
 
 fn put_faults(out: &mut Writer, file: &str, faults: &Vec<Finding>) -> Result<(), AllocError>
-    ensures tokens { OnOk result (out.new.tokens
-        ≡ out.old.tokens ++ faults_member file.now (map finding_view faults.now.items)) }
-    ensures before { out.new.before ≡ out.old.before }
+    ensures { Puts result out.old out.new
+        (faults_member file.now (map finding_view faults.now.items)) }
 {
     begin_array(out, "faults")?;
-    put_objects(out, file, faults)?;
-    out.end_array()
-}
-
-fn put_objects(out: &mut Writer, file: &str, faults: &Vec<Finding>) -> Result<(), AllocError>
-    ensures tokens { OnOk result (out.new.tokens
-        ≡ out.old.tokens ++ flat_map (object_of file.now) (map finding_view faults.now.items)) }
-    ensures before { out.new.before ≡ out.old.before }
-{
     for fault in faults {
         put_object(out, file, fault)?;
     }
-    Ok(())
-}
-
-fn put_more(out: &mut Writer, template: &Template) -> Result<(), AllocError>
-    ensures tokens { OnOk result (out.new.tokens ≡ out.old.tokens ++ more_member (has_more template.now)) }
-    ensures before { out.new.before ≡ out.old.before }
-{
-    out.key("more")?;
-    out.boolean(has_more(template))
+    out.end_array()
 }
 
 // Whether it has more faults than are known.

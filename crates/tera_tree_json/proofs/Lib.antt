@@ -2,4 +2,3 @@ pub mod Elifs
 pub mod Pairs
 pub mod FromFirst
 pub mod Views
-pub mod Writing

@@ -1,4 +1,3 @@
-pub mod WrittenJson
 pub mod Constants
 pub mod Forms
 pub mod TreeJson

@@ -5,7 +5,7 @@ ghost use Rattle.std.specs.Fmt.{decimal, signed_decimal};
 ghost use Rattle.json.specs.Json.{null, string, array, item, no_items};
 ghost use Rattle.tera_base.specs.ValueView.{key_view, value_view, vals_view, pairs_view};
 ghost use Rattle.tera_tree_json.specs.Constants.{whole_json, other_json, key_json, value_json, bytes_json, vals_json, pairs_json};
-ghost use Rattle.tera_tree_json.specs.WrittenJson.{PutsJson};
+ghost use Rattle.json_members.specs.Written.{PutsJson};
 
 use itoa::Buffer;
 use json::Writer;

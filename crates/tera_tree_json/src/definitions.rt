@@ -7,12 +7,13 @@ ghost use Rattle.json.specs.Tree.{json_tokens, members_tokens};
 ghost use Rattle.tera_base.specs.ValueView.{value_view};
 ghost use Rattle.tera_tree.specs.View.{default_view, argument_view, definition_view};
 ghost use Rattle.tera_tree_json.specs.TreeJson.{type_json, default_json, argument_json, arguments_json, metadata_json, definition_json, definitions_json};
-ghost use Rattle.tera_tree_json.specs.WrittenJson.{Puts, PutsJson};
+ghost use Rattle.json_members.specs.Written.{Puts, PutsJson};
 
 use crate::constants::put_value;
-use crate::fields::{put_flag, put_name, put_text};
+use crate::fields::{put_flag, put_name};
 use crate::nodes::put_nodes;
 use json::Writer;
+use json_members::put_text;
 use std::alloc::AllocError;
 use std::collections::BTreeMap;
 use tera_base::Value;

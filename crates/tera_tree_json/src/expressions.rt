@@ -10,12 +10,13 @@ ghost use Rattle.tera_ast.specs.declared.ast.ComponentCall.{out-ComponentCall};
 ghost use Rattle.tera_tree_json.specs.Constants.{key_json, value_json};
 ghost use Rattle.tera_tree_json.specs.Forms.{name_json, const_json, array_json, map_json, var_json, get_attr_json, get_item_json, slice_json, call_json, ternary_json, comprehension_json, component_call_json, function_call_json, unary_json, binary_json, part_json, pair_json};
 ghost use Rattle.tera_tree_json.specs.TreeJson.{expr_json, maybe_json, args_json, items_json, item_json, entries_json, entry_json, nodes_json};
-ghost use Rattle.tera_tree_json.specs.WrittenJson.{Puts, PutsJson};
+ghost use Rattle.json_members.specs.Written.{Puts, PutsJson};
 
 use crate::constants::{put_key, put_value};
-use crate::fields::{begin, begin_at, binary_name, put_flag, put_name, put_text, unary_name};
+use crate::fields::{begin, begin_at, binary_name, put_flag, put_name, unary_name};
 use crate::nodes::put_nodes;
 use json::Writer;
+use json_members::put_text;
 use std::alloc::AllocError;
 use std::collections::BTreeMap;
 use tera_base::{Key, Span, Value};

@@ -4,11 +4,11 @@ ghost use Rattle.std.specs.Prelude.{◌≡◌, ◌∷◌, [], codes};
 ghost use Rattle.json.specs.Token.{begin_object, key, string, boolean};
 ghost use Rattle.json.specs.Tree.{json_tokens};
 ghost use Rattle.tera_ast.specs.View.{name_view};
-ghost use Rattle.tera_tree_json.specs.Constants.{count_json};
 ghost use Rattle.tera_tree_json.specs.Forms.{span_json, name_json, unary_name, binary_name};
-ghost use Rattle.tera_tree_json.specs.WrittenJson.{Puts, PutsJson};
+ghost use Rattle.json_members.specs.Written.{Puts, PutsJson};
 
 use json::Writer;
+use json_members::put_number;
 use std::alloc::AllocError;
 use tera_base::Span;
 use tera_tree::{BinaryOperator, UnaryOperator};
@@ -37,28 +37,13 @@ fn put_span(out: &mut Writer, span: &Span) -> Result<(), AllocError>
     ensures { PutsJson result out.old out.new (span_json span.now) }
 {
     out.begin_object()?;
-    put_count(out, "start_line", span.start_line)?;
-    put_count(out, "start_col", span.start_col)?;
-    put_count(out, "end_line", span.end_line)?;
-    put_count(out, "end_col", span.end_col)?;
-    put_count(out, "start", span.range.start)?;
-    put_count(out, "end", span.range.end)?;
+    put_number(out, "start_line", span.start_line)?;
+    put_number(out, "start_col", span.start_col)?;
+    put_number(out, "end_line", span.end_line)?;
+    put_number(out, "end_col", span.end_col)?;
+    put_number(out, "start", span.range.start)?;
+    put_number(out, "end", span.range.end)?;
     out.end_object()
-}
-
-fn put_count(out: &mut Writer, name: &str, count: usize) -> Result<(), AllocError>
-    ensures { Puts result out.old out.new (key name.now ∷ json_tokens (count_json count)) }
-{
-    out.key(name)?;
-    out.u64(count as u64)
-}
-
-/// A member that is a text.
-pub(crate) fn put_text(out: &mut Writer, name: &str, text: &str) -> Result<(), AllocError>
-    ensures { Puts result out.old out.new (key name.now ∷ string text.now ∷ []) }
-{
-    out.key(name)?;
-    out.string(text)
 }
 
 /// A member that is a truth.

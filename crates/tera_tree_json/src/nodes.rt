@@ -12,11 +12,12 @@ ghost use Rattle.tera_ast.specs.declared.ast.ForLoop.{out-ForLoop};
 ghost use Rattle.tera_ast.specs.declared.ast.If.{out-If};
 ghost use Rattle.tera_tree_json.specs.Forms.{node, name_json, content_json, shown_json, set_json, block_set_json, include_json, block_json, for_json, branch_json, if_json, section_json};
 ghost use Rattle.tera_tree_json.specs.TreeJson.{expr_json, filters_json, node_json, nodes_json, chain_json};
-ghost use Rattle.tera_tree_json.specs.WrittenJson.{Puts, PutsJson};
+ghost use Rattle.json_members.specs.Written.{Puts, PutsJson};
 
 use crate::expressions::{put_expression, put_part};
-use crate::fields::{begin, begin_at, put_flag, put_name, put_text};
+use crate::fields::{begin, begin_at, put_flag, put_name};
 use json::Writer;
+use json_members::put_text;
 use std::alloc::AllocError;
 use tera_tree::{Block, BlockSet, Expression, FilterSection, ForLoop, If, Include, Node, Set};
 

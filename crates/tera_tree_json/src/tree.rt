@@ -3,7 +3,7 @@
 ghost use Rattle.std.specs.Prelude.{◌≡◌, string_bytes, IfOk};
 ghost use Rattle.tera_tree.specs.Outputs.{output_view};
 ghost use Rattle.tera_tree_json.specs.TreeJson.{output_json, json_text};
-ghost use Rattle.tera_tree_json.specs.WrittenJson.{PutsJson};
+ghost use Rattle.json_members.specs.Written.{PutsJson};
 
 use crate::definitions::put_definitions;
 use crate::fields::put_name;

@@ -5,7 +5,7 @@ use Rattle.tera_ast.proofs.Views.{view_const, view_array, view_map, view_var, vi
 use Rattle.tera_tree_json.proofs.Elifs.{whole, opened_more, closed}
 use Rattle.tera_tree_json.proofs.FromFirst.{items_row, one_item, entries_row, one_entry, row_more}
 use Rattle.tera_tree_json.proofs.Views.{view_content, view_continue, view_include}
-use Rattle.tera_tree_json.proofs.Writing.{token, then_token, then_all, from_later, as_well}
+use Rattle.json_members.proofs.Putting.{token, then_token, then_all, from_later, as_well}
 use Rattle.tera_tree_json.proofs.+tree.Goals as goal
 
 pub expressions::put_expression-returns-in-Const : goal.expressions::put_expression-returns-in-Const
@@ -101,7 +101,7 @@ expressions::put_items-loop-item-preserved t c =
     let l = c.loop-item in
     let x = c.item-item.result in (
       c.in_ok-put_item.ensures.before ∙ l.invariant.0,
-      rw c.in_ok-put_item.ensures.ok (row_more items_row _ _ _ _ l.item-index x l.invariant.1 (search rules) c.item-item.is (one_item x _)),
+      rw c.in_ok-put_item.ensures.tokens (row_more items_row _ _ _ _ l.item-index x l.invariant.1 (search rules) c.item-item.is (one_item x _)),
     )
 
 pub expressions::put_entries-loop-entry-preserved : goal.expressions::put_entries-loop-entry-preserved
@@ -109,7 +109,7 @@ expressions::put_entries-loop-entry-preserved t c =
     let l = c.loop-entry in
     let x = c.entry-item.result in (
       c.in_ok-put_entry.ensures.before ∙ l.invariant.0,
-      rw c.in_ok-put_entry.ensures.ok (row_more entries_row _ _ _ _ l.entry-index x l.invariant.1 (search rules) c.entry-item.is (one_entry x _)),
+      rw c.in_ok-put_entry.ensures.tokens (row_more entries_row _ _ _ _ l.entry-index x l.invariant.1 (search rules) c.entry-item.is (one_entry x _)),
     )
 
 pub nodes::put_node-returns-in-Continue : goal.nodes::put_node-returns-in-Continue
@@ -124,7 +124,7 @@ nodes::put_if-loop-next-preserved t c =
     let less : size-If c.in-Some.next.now ≤ size-If c.loop-next.last.now = search (rules, the_lemmas) in (
       c.in_ok-put_branch-2.ensures.before ∙ held.0,
       omega (arith, less, held.1),
-      rw c.in_ok-put_branch-2.ensures.ok (opened_more _ _ c.args.parts.now c.loop-next.last.now c.in-Some.next.now c.in-Some.ensures.some held.2),
+      rw c.in_ok-put_branch-2.ensures.tokens (opened_more _ _ c.args.parts.now c.loop-next.last.now c.in-Some.next.now c.in-Some.ensures.some held.2),
     )
 
 pub nodes::put_if-returns : goal.nodes::put_if-returns

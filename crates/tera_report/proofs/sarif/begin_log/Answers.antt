@@ -1,8 +1,9 @@
+use Rattle.json_members.proofs.Putting.{then_all}
 use Rattle.tera_report.specs.Logs.{log_begin}
-use Rattle.tera_report.proofs.Texts.{four}
 use Rattle.tera_report.proofs.sarif.begin_log.Goals as goal
 
-pub returns-clause-tokens : goal.returns-clause-tokens
+pub returns : goal.returns
 unfolding log_begin
-returns-clause-tokens c =
-    four _ _ _ _ _ _ _ _ _ c.in_ok-begin_object.ensures.ok c.in_ok-put_form.ensures.tokens c.in_ok-begin_array.ensures.tokens c.in_ok-begin_run.ensures.tokens
+returns c =
+    then_all _ c.in_ok-put_tokens.ensures (then_all _ c.in_ok-put_text.ensures (then_all _ c.in_ok-begin_array.ensures
+    (then_all _ c.in_ok-put_rules.ensures c.put_tokens-2.ensures)))

@@ -1,6 +1,5 @@
-use Rattle.tera_report.proofs.Texts.{three}
+use Rattle.json_members.proofs.Putting.{then_all}
 use Rattle.tera_report.proofs.sarif.put_locations.Goals as goal
 
-pub returns-clause-tokens : goal.returns-clause-tokens
-returns-clause-tokens c =
-    three _ _ _ _ _ _ _ c.in_ok-begin_array.ensures.tokens c.in_ok-put_location.ensures.tokens c.in_ok-end_array.ensures.ok
+pub returns : goal.returns
+returns c = then_all _ c.in_ok-put_tokens.ensures (then_all _ c.in_ok-put_place.ensures c.put_tokens-2.ensures)

@@ -4,7 +4,7 @@ use Rattle.std.specs.List.{zip}
 use Rattle.std.specs.Slice.Iter.{iter_rest}
 use Rattle.json.specs.Token.{begin_array}
 use Rattle.tera_tree_json.proofs.Pairs.{one_pair, value_below, no_pairs}
-use Rattle.tera_tree_json.proofs.Writing.{put_last}
+use Rattle.json_members.proofs.Putting.{put_last}
 use Rattle.tera_tree_json.proofs.constants.+constants.Goals as goal
 
 pub put_pairs-loop-key-init : goal.put_pairs-loop-key-init
@@ -18,7 +18,7 @@ put_pairs-loop-key-preserved t c =
     let next = c.in-Some.ensures.steps in
     let held = c.loop-key.invariant in
     let below = value_below _ _ _ _ _ _ _ held.2 next.0 next.1 in
-    (c.in_ok-put_pair.ensures.before ∙ held.0, rw c.in_ok-put_pair.ensures.ok (one_pair _ _ _ _ _ _ _ _ held.1 next.0 next.1), below.1)
+    (c.in_ok-put_pair.ensures.before ∙ held.0, rw c.in_ok-put_pair.ensures.tokens (one_pair _ _ _ _ _ _ _ _ held.1 next.0 next.1), below.1)
 
 pub put_pairs-put_pair-requires : goal.put_pairs-put_pair-requires
 put_pairs-put_pair-requires t c =

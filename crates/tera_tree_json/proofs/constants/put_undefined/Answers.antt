@@ -1,5 +1,5 @@
 use Rattle.std.proofs.Common.{append_assoc, ◌∙◌}
-use Rattle.tera_tree_json.proofs.Writing.{put_last}
+use Rattle.json_members.proofs.Putting.{put_last}
 use Rattle.tera_tree_json.proofs.constants.put_undefined.Goals as goal
 
 pub returns : goal.returns

@@ -1,4 +1,4 @@
-use Rattle.tera_tree_json.proofs.Writing.{then_all, then_token}
+use Rattle.json_members.proofs.Putting.{then_all, then_token}
 use Rattle.tera_tree_json.proofs.definitions.put_argument.Goals as goal
 
 pub returns : goal.returns

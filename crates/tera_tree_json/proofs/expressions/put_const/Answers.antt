@@ -1,4 +1,4 @@
-use Rattle.tera_tree_json.proofs.Writing.{then_all, then_token, token}
+use Rattle.json_members.proofs.Putting.{then_all, then_token, token}
 use Rattle.tera_tree_json.proofs.expressions.put_const.Goals as goal
 
 pub returns : goal.returns

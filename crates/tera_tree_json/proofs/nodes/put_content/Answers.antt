@@ -1,4 +1,4 @@
-use Rattle.tera_tree_json.proofs.Writing.{token, then_all}
+use Rattle.json_members.proofs.Putting.{token, then_all}
 use Rattle.tera_tree_json.proofs.nodes.put_content.Goals as goal
 
 pub returns : goal.returns

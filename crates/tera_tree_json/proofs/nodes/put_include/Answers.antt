@@ -1,4 +1,4 @@
-use Rattle.tera_tree_json.proofs.Writing.{then_all, token}
+use Rattle.json_members.proofs.Putting.{then_all, token}
 use Rattle.tera_tree_json.proofs.nodes.put_include.Goals as goal
 
 pub returns : goal.returns

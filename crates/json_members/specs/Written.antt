@@ -7,7 +7,7 @@ use Rattle.json.specs.Written.{Written}
 
 -- a call that succeeds has written these tokens after those that were there; what was before them all stays
 pub record Puts {E : Type 0} (r : Result (Unit {0}) E) (old new : Written) (ts : List Token) : Type 0 where
-  pub ok : OnOk r (new.tokens ≡ old.tokens ++ ts)
+  pub tokens : OnOk r (new.tokens ≡ old.tokens ++ ts)
   pub before : new.before ≡ old.before
 
 -- the same of the tokens of a value

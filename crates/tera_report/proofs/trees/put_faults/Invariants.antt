@@ -2,7 +2,7 @@ use Rattle.std.proofs.Common.{◌≡◌, ◌++◌, drop, map}
 use Rattle.std.specs.List.{flat_map}
 use Rattle.tera_check.specs.Findings.{finding_view}
 use Rattle.tera_check.specs.Objects.{object_of}
-use Rattle.tera_report.proofs.trees.put_objects.Given as goal
+use Rattle.tera_report.proofs.trees.put_faults.Given as goal
 
 abbrev pub invariant-loop-fault : goal.invariant-loop-fault
 invariant-loop-fault l = record {

@@ -1,7 +1,7 @@
 use Rattle.std.proofs.Common.{◌≡◌, ◌++◌, drop}
 use Rattle.std.specs.List.{flat_map}
 use Rattle.tera_report.specs.Logs.{rule}
-use Rattle.tera_report.proofs.sarif.put_kinds.Given as goal
+use Rattle.tera_report.proofs.sarif.put_rules.Given as goal
 
 abbrev pub invariant-loop-kind : goal.invariant-loop-kind
 invariant-loop-kind l = record {

@@ -1,6 +1,0 @@
-use Rattle.tera_report.proofs.Texts.{four}
-use Rattle.tera_report.proofs.sarif.put_driver.Goals as goal
-
-pub returns-clause-tokens : goal.returns-clause-tokens
-returns-clause-tokens c =
-    four _ _ _ _ _ _ _ _ _ c.in_ok-begin_object.ensures.tokens c.in_ok-put_names.ensures.tokens c.in_ok-put_rules.ensures.tokens c.in_ok-end_object.ensures.ok
