@@ -6,9 +6,8 @@
 //!
 //! In the order of reading: `options`, the words; `job`, what they ask; `status`, how it ends; `colours` and `output`;
 //! `settings`, what a file of settings says; `excluded` and `reading`, the templates; `site`, their names in a site;
-//! `rules`, `found`, `forms`, `writing` and `reporting`, what is found in them, counted and as text; `counting`, the last
-//! line; `plan` and `markers`, what a file becomes; `sending`, the messages to an editor; then a module for each
-//! subcommand.
+//! `rules`, `found`, `forms` and `reporting`, what is found in them, counted and as text; `counting`, the last line;
+//! `plan` and `markers`, what a file becomes; `sending`, the messages to an editor; then a module for each subcommand.
 #![tactic(auto)]
 
 mod aside;
@@ -36,7 +35,6 @@ mod settings;
 mod site;
 mod status;
 mod tree;
-mod writing;
 
 ghost use Rattle.std.specs.Prelude.{◌≤◌};
 

@@ -12,11 +12,11 @@ use crate::found::{count_of, faulty_of, has_error};
 use crate::job::Form;
 use crate::reading::Unreadable;
 use crate::rules::{Rules, leave_reported};
-use crate::writing::write_all;
 use std::alloc::{AllocError, Global};
 use std::io;
 use std::io::Write;
 use tera_check::{Found, Template, all_found};
+use tera_show::write_all;
 use tera_site::{SiteNames, add_names};
 use terminal_text::{Sources, Style};
 

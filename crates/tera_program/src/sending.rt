@@ -7,12 +7,12 @@ ghost use Rattle.json_rpc.specs.Outgoing.{nothing};
 ghost use Rattle.message_frames.specs.Writing.{frame};
 ghost use Rattle.tera_program.specs.Sent.{AppendsPart};
 
-use crate::writing::write_all;
 use json_rpc::Outbox;
 use message_frames::write_frame;
 use std::alloc::Global;
 use std::io;
 use std::io::Write;
+use tera_show::write_all;
 
 /// Writes the messages that are to be sent, each after its header, in their order; then nothing is to be sent.
 pub(crate) fn send<W: Write>(alloc: Global, writer: &mut W, out: &mut Outbox) -> io::Result<()>

@@ -1,12 +1,12 @@
 //! From what is read to what is written.
 
-ghost use Rattle.std.specs.Prelude.{◌≡◌, ◌≢◌, ◌<◌, ℕ, length, take, string_bytes, IfOk, OnOk, IfErr, IfSome};
-ghost use Rattle.std.specs.Io.KnownBytes.{Appends};
+ghost use Rattle.std.specs.Prelude.{◌≡◌, ◌≢◌, string_bytes, IfOk, IfErr, IfSome};
 ghost use Rattle.tera_grammar.specs.Limits.{usual};
 ghost use Rattle.tera_expr_parts.specs.Allowed.{AreValid, limits_of};
 ghost use Rattle.tera_tree_text.specs.TreeText.{text_of};
 ghost use Rattle.tera_show.specs.Shown.{IsShown, IsAnswer, fault_line, status_of};
 
+use crate::writing::write_all;
 use line_text::push_on_one_line;
 use std::alloc::{AllocError, AllocFailed, Global};
 use std::io::{Read, Write};
@@ -79,8 +79,10 @@ pub fn show_with<R: Read, W: Write>(
 {
     let input = read_all(alloc, reader)?;
     let (outcome, text) = answer(alloc, input.as_slice(), limits)?;
-    write_all(writer, text.as_bytes())?;
-    Ok(outcome)
+    match write_all(writer, text.as_bytes()) {
+        Ok(()) => Ok(outcome),
+        Err(_) => Err(ShowFault::Write),
+    }
 }
 
 /// The status with which the program ends: 0 for a tree, 1 for a syntax error, 2 for an input that is not text, 3 for
@@ -115,23 +117,6 @@ fn read_all<R: Read>(alloc: Global, reader: &mut R) -> Result<Vec<u8>, ShowFault
         all.extend_from_slice(&part[..n])?;
     }
     Err(ShowFault::Read)
-}
-
-// Writes all of the text, or a beginning of it.
-fn write_all<W: Write>(writer: &mut W, text: &[u8]) -> Result<(), ShowFault>
-    ensures ok { OnOk result (Appends (W.contents writer.old) (W.contents writer.new) text.now) }
-    ensures err { IfErr result (λ e. (e ≡ ShowFault.Write) × ((n : ℕ) × (n < length text.now)
-        × Appends (W.contents writer.old) (W.contents writer.new) (take n text.now))) }
-{
-    let mut done = 0;
-    while done < text.len() {
-        match writer.write(&text[done..]) {
-            Ok(0) => return Err(ShowFault::Write),
-            Ok(n) => done += n,
-            Err(_) => return Err(ShowFault::Write),
-        }
-    }
-    Ok(())
 }
 
 // The answer to the input, within the limits.

@@ -2,7 +2,7 @@ use Rattle.std.proofs.Common.{◌≤◌, length, take, drop, arith}
 use Rattle.std.proofs.lemmas.List.{take_rest, length-drop}
 use Rattle.std.specs.Io.KnownBytes.{Appends}
 use Rattle.tera_show.proofs.Known.{appends_more, take_on}
-use Rattle.tera_show.proofs.stream.write_all.Goals as goal
+use Rattle.tera_show.proofs.writing.write_all.Goals as goal
 
 pub loop-done-preserved : goal.loop-done-preserved
 loop-done-preserved g c =

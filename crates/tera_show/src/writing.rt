@@ -1,4 +1,4 @@
-//! A text that is written.
+//! A text that is written, to any writer.
 
 ghost use Rattle.std.specs.Prelude.{◌<◌, ℕ, length, take, OnOk, OnErr};
 ghost use Rattle.std.specs.Io.KnownBytes.{Appends};
@@ -7,7 +7,7 @@ use std::io;
 use std::io::Write;
 
 /// Writes all of the text, or a beginning of it. A write that takes no byte is an error.
-pub(crate) fn write_all<W: Write>(writer: &mut W, text: &[u8]) -> io::Result<()>
+pub fn write_all<W: Write>(writer: &mut W, text: &[u8]) -> io::Result<()>
     ensures ok { OnOk result (Appends (W.contents writer.old) (W.contents writer.new) text.now) }
     ensures err { OnErr result ((n : ℕ) × (n < length text.now)
         × Appends (W.contents writer.old) (W.contents writer.new) (take n text.now)) }
