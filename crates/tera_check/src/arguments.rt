@@ -1,6 +1,6 @@
 //! The arguments of a call, beside those that the component is defined with.
 
-ghost use Rattle.std.specs.Prelude.{◌≡◌, ◌∷◌, [], ◌++◌, ◌&&◌, not, if◌then◌else◌, Some, map, string_bytes, IfOk, OnOk};
+ghost use Rattle.std.specs.Prelude.{◌≡◌, [], ◌++◌, ◌&&◌, not, if◌then◌else◌, Some, map, string_bytes, IfOk, OnOk};
 ghost use Rattle.std.specs.BTreeSet.{contains_text};
 ghost use Rattle.std.specs.Option.{option_map};
 ghost use Rattle.tera_base.specs.Contexts.{found};
@@ -51,23 +51,9 @@ fn push_if_refused(
         ++ refused_one (known_view known.now) (is_in later.now (passed_view one.now))
         later.now.more (passed_view one.now)) }
 {
-    match one {
-        Passed::Named(named) => push_if_last(alloc, findings, known, later, named),
-        Passed::Any => Ok(()),
-    }
-}
-
-fn push_if_last(
-    alloc: Global,
-    findings: &mut Vec<Finding>,
-    known: &Known<'_>,
-    later: &Names,
-    named: &Named<'_>,
-) -> Result<(), AllocError>
-    ensures { OnOk result (map finding_view findings.new.items ≡ map finding_view findings.old.items
-        ++ (if contains_text later.now.under (named_view named.now).name then []
-        else refused (known_view known.now) later.now.more (named_view named.now))) }
-{
+    let Passed::Named(named) = one else {
+        return Ok(());
+    };
     if later.under.contains(named.name.as_str()) {
         return Ok(());
     }
@@ -115,22 +101,9 @@ fn push_remark(
         ++ remarked (known_view known.now) span.now (option_map remark_view remark)) }
 {
     match remark {
-        Some(remark) => push_about(alloc, findings, known, span, remark),
+        Some(remark) => push_finding(findings, about(alloc, known, span, remark)?),
         None => Ok(()),
     }
-}
-
-fn push_about(
-    alloc: Global,
-    findings: &mut Vec<Finding>,
-    known: &Known<'_>,
-    span: &Span,
-    remark: Remark,
-) -> Result<(), AllocError>
-    ensures { OnOk result (map finding_view findings.new.items ≡ map finding_view findings.old.items
-        ++ (about (known_view known.now) span.now (remark_view remark) ∷ [])) }
-{
-    push_finding(findings, about(alloc, known, span, remark)?)
 }
 
 // A finding about a call of the component, with a note that says where that is defined.
@@ -249,19 +222,6 @@ pub(crate) fn push_missing(
     if passed.more {
         return Ok(());
     }
-    push_all_missing(alloc, findings, known, passed, span)
-}
-
-fn push_all_missing(
-    alloc: Global,
-    findings: &mut Vec<Finding>,
-    known: &Known<'_>,
-    passed: &Names,
-    span: &Span,
-) -> Result<(), AllocError>
-    ensures { OnOk result (map finding_view findings.new.items ≡ map finding_view findings.old.items
-        ++ missing_findings (known_view known.now) (contains_text passed.now.under) span.now) }
-{
     for (name, argument) in known.definition.kwargs.iter() {
         let remark = missed(alloc, passed, name.as_str(), argument)?;
         push_remark(alloc, findings, known, span, remark)?;

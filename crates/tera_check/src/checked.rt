@@ -198,22 +198,9 @@ fn push_again(
     ensures { OnOk result (map finding_view findings.new.items ≡ map finding_view findings.old.items
         ++ defined_again number span.now (option_map (λ k. known_view k.now) known.entry)) }
 {
-    match known {
-        Some(known) => push_other(alloc, findings, known, number, span),
-        None => Ok(()),
-    }
-}
-
-fn push_other(
-    alloc: Global,
-    findings: &mut Vec<Finding>,
-    known: &Known<'_>,
-    number: usize,
-    span: &Span,
-) -> Result<(), AllocError>
-    ensures { OnOk result (map finding_view findings.new.items ≡ map finding_view findings.old.items
-        ++ defined_again number span.now (Some (known_view known.now))) }
-{
+    let Some(known) = known else {
+        return Ok(());
+    };
     if known.template == number {
         return Ok(());
     }

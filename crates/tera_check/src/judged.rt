@@ -1,6 +1,6 @@
 //! What is found of a call of a component.
 
-ghost use Rattle.std.specs.Prelude.{◌≡◌, ◌∷◌, [], ◌++◌, map, string_bytes, IfOk, OnOk};
+ghost use Rattle.std.specs.Prelude.{◌≡◌, ◌++◌, map, string_bytes, IfOk, OnOk};
 ghost use Rattle.std.specs.Option.{option_map};
 ghost use Rattle.tera_base.specs.Spanned.{node_of, span_of};
 ghost use Rattle.tera_ast.specs.View.{call_view, entries_view};
@@ -54,7 +54,10 @@ fn push_judged(
     let span = call.span();
     match known {
         Some(known) => push_arguments(alloc, findings, known, span, &call.node().kwargs),
-        None => push_undefined(alloc, findings, span, call.node().name.as_str()),
+        None => {
+            let name = call.node().name.as_str();
+            push_finding(findings, undefined(alloc, span, name)?)
+        }
     }
 }
 
@@ -75,18 +78,6 @@ fn push_arguments(
     let names = push_refused(alloc, findings, known, passed)?;
     push_missing(alloc, findings, known, &names, span)?;
     Ok(())
-}
-
-fn push_undefined(
-    alloc: Global,
-    findings: &mut Vec<Finding>,
-    span: &Span,
-    name: &str,
-) -> Result<(), AllocError>
-    ensures { OnOk result (map finding_view findings.new.items ≡ map finding_view findings.old.items
-        ++ (undefined span.now name.now ∷ [])) }
-{
-    push_finding(findings, undefined(alloc, span, name)?)
 }
 
 fn undefined(alloc: Global, span: &Span, name: &str) -> Result<Finding, AllocError>

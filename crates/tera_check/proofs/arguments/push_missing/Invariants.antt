@@ -4,7 +4,7 @@ use Rattle.std.specs.List.{flat_map}
 use Rattle.tera_tree.specs.View.{argument_view}
 use Rattle.tera_check.specs.Findings.{finding_view}
 use Rattle.tera_check.specs.Judged.{known_view, remarked, missed, missing_findings}
-use Rattle.tera_check.proofs.arguments.push_all_missing.Given as goal
+use Rattle.tera_check.proofs.arguments.push_missing.Given as goal
 
 abbrev pub invariant-loop-name : goal.invariant-loop-name
 invariant-loop-name l =
