@@ -1,6 +1,5 @@
 -- The name that may have been meant by a word.
-use Rattle.std.specs.Prelude.{◌≡◌, ℕ, ◌≤◌, List, Bool, true, false, if◌then◌else◌, Option, None, Some, All, Contains, length, nat_le}
-use Rattle.std.specs.Int.{div_ceil}
+use Rattle.std.specs.Prelude.{◌≡◌, ℕ, ◌≤◌, ◌/◌, List, Bool, true, false, if◌then◌else◌, Option, None, Some, All, Contains, length, nat_le}
 use Rattle.std.specs.Str.{chars}
 use Rattle.strsim.specs.Edits.{osa_table}
 use Rattle.tera_settings.specs.declared.near.Near.{Near}
@@ -13,9 +12,9 @@ distance word name = (osa_table (chars word) (chars name)).last_row (length (cha
 abbrev pub NearVal : Type 0
 NearVal = List ℕ × ℕ
 
--- a third of the name is enough for them, rounded up
+-- they edit a third of the name at most
 abbrev pub is_within : NearVal → Bool
-is_within (name, far) = nat_le far (div_ceil (length (chars name)) 3)
+is_within (name, far) = nat_le far (length (chars name) / 3)
 
 -- a name is near to a word
 abbrev pub is_near : List ℕ → List ℕ → Bool

@@ -53,5 +53,5 @@ fn nearer<'n>(nearest: Option<Near<'n>>, other: Near<'n>) -> Option<Near<'n>>
 fn is_within(near: Near<'_>) -> bool
     ensures { result ≡ is_within (near_view near.entry) }
 {
-    near.far <= near.name.chars().count().div_ceil(3)
+    near.far <= near.name.chars().count() / 3
 }

@@ -8,7 +8,7 @@ ghost use Rattle.tera_settings.specs.Places.{HasKeyAt, HasPartsAt, IsKeyOf, IsPl
 use crate::fault::Fault;
 use std::alloc::{AllocError, Global};
 use toml_parser::text::first;
-use toml_parser::{Key, ParseError, dotted_key};
+use toml_parser::{Key, ParseError, dotted_key, quoted, starts_string};
 
 impl Fault {
     /// The byte of the text from which the fault is, if that is known: of a member where its key is, or that of its table.
@@ -54,17 +54,59 @@ fn key_place(
     ensures { IfOk result (λ place. IfSome place (λ at. HasKeyAt text.now at name.now)) }
 {
     let mut header = Vec::new(alloc);
-    let mut start = 0usize;
-    for line in text.split_inclusive('\n') {
+    for start in line_starts(alloc, text)? {
+        let line = text.get(start..).unwrap_or("");
         let at = start.saturating_add(key_start(line));
         if let Some(parts) = parts_at(alloc, text, at)? {
             if leads(&mut header, is_header(line), parts, table, name) {
                 return Ok(Some(at));
             }
         }
-        start = start.saturating_add(line.len());
     }
     Ok(None)
+}
+
+// Where lines begin that may have a key: not in a string, an array or a table in braces, and after a byte order mark.
+fn line_starts(alloc: Global, text: &str) -> Result<Vec<usize>, AllocError> {
+    let mut starts = Vec::new(alloc);
+    starts.push(if text.starts_with('\u{feff}') { 3 } else { 0 })?;
+    let mut passed = 0;
+    let mut depth = 0usize;
+    for (at, letter) in text.char_indices() {
+        if at < passed {
+            continue;
+        }
+        match letter {
+            '"' | '\'' => passed = string_end(alloc, text, at)?,
+            '#' => passed = comment_end(text, at),
+            '[' | '{' => depth = depth.saturating_add(1),
+            ']' | '}' => depth = depth.saturating_sub(1),
+            '\n' if depth == 0 => starts.push(at.saturating_add(1))?,
+            _ => {}
+        }
+    }
+    Ok(starts)
+}
+
+// Where the string ends that begins there, in one line or in several.
+fn string_end(alloc: Global, text: &str, at: usize) -> Result<usize, AllocError> {
+    let string = text.get(at..).unwrap_or("");
+    if !starts_string(string) {
+        return Ok(at);
+    }
+    match quoted(alloc, string) {
+        Ok((_, after)) => Ok(text.len().saturating_sub(after.len())),
+        Err(ParseError::OutOfMemory) => Err(AllocError),
+        Err(_) => Ok(text.len()),
+    }
+}
+
+fn comment_end(text: &str, at: usize) -> usize {
+    let comment = text.get(at..).unwrap_or("");
+    match comment.find('\n') {
+        Some(len) => at.saturating_add(len),
+        None => text.len(),
+    }
 }
 
 // What is before the key in its line.
@@ -74,7 +116,7 @@ fn key_start(line: &str) -> usize {
 }
 
 fn is_header(line: &str) -> bool {
-    line.trim_start().starts_with('[')
+    line.trim_start_matches([' ', '\t']).starts_with('[')
 }
 
 // The parts of the key that the text has there, up to an equals sign or the end of a header.

@@ -18,6 +18,26 @@ fn a_key_that_no_setting_has(rt: HostRuntime) -> Result<(), Fail> {
     );
     let found = shown(alloc, "[theme]\nroot = \"a\"\n")?;
     assert_eq!(rt; found.as_str(), "1: unknown key `theme`");
+    let found = shown(alloc, "foo = 1\n")?;
+    assert_eq!(rt; found.as_str(), "0: unknown key `foo`");
+    Ok(())
+}
+
+#[test]
+fn a_key_after_what_is_no_key(rt: HostRuntime) -> Result<(), Fail> {
+    let alloc = rt.alloc();
+    let found = shown(alloc, "\u{feff}[rules]\nfault = \"off\"\n")?;
+    assert_eq!(rt; found.as_str(), "11: unknown rule `fault`");
+    let found = shown(alloc, "root = \"\"\"\nrot = 1\n\"\"\"\nrot = 2\n")?;
+    assert_eq!(rt;
+        found.as_str(),
+        "23: unknown key `rot`: did you mean `root`?"
+    );
+    let found = shown(alloc, "exclude = [ # [\n[\"rot\"],\n]\nrot = 2\n")?;
+    assert_eq!(rt;
+        found.as_str(),
+        "27: unknown key `rot`: did you mean `root`?"
+    );
     Ok(())
 }
 

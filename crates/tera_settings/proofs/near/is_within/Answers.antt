@@ -1,10 +1,9 @@
-use Rattle.std.proofs.Common.{rules, ◌≡◌, ◌∙◌, ap, length, nat_le}
+use Rattle.std.proofs.Common.{rules, ◌≡◌, ◌/◌, ap, length, nat_le}
 use Rattle.std.proofs.lemmas.Str.{chars_from_encodes}
-use Rattle.std.specs.Int.{div_ceil}
 use Rattle.std.specs.Str.{chars}
 use Rattle.tera_settings.proofs.near.is_within.Goals as goal
 
 pub returns : goal.returns
 returns c =
     let long : c.count.result ≡ length (chars c.args.near.name.now) = search (rules, chars_from_encodes) in
-    ap (nat_le c.args.near.far) (c.div_ceil.ensures ∙ ap (λ n. div_ceil n 3) long)
+    ap (λ n. nat_le c.args.near.far (n / 3)) long
