@@ -1,13 +1,13 @@
 //! The file of settings above a path.
 
-ghost use Rattle.std.specs.Prelude.{◌≡◌, IfOk, IfSome, string_bytes};
+ghost use Rattle.std.specs.Prelude.{◌≡◌, IfOk, IfSome, codes, string_bytes};
 ghost use Rattle.tera_settings.specs.Values.{texts};
 ghost use Rattle.settings_files.specs.Configured.{IsConfigured};
-ghost use Rattle.settings_files.specs.Paths.{IsInFolder};
+ghost use Rattle.settings_files.specs.Paths.{IsAbove, IsInFolder};
 
 use crate::configured::{Configured, settings_in};
 use crate::unfit::Unfit;
-use std::alloc::AllocError;
+use std::alloc::{AllocError, Global};
 use std::io::ErrorKind;
 use std::path::Path;
 use std::rt::Files;
@@ -17,8 +17,12 @@ use tera_files::{Source, Unread, read_source};
 /// The name of a file of settings.
 pub const NAME: &str = "tera.toml";
 
+// How many folders are searched whose paths are not known. A path that the system takes has fewer parts.
+const MOST: usize = 4096;
+
 /// The settings of the nearest file `tera.toml`: in the folder of this path, or beside it, or in a folder above. There
-/// may be none. Its path is from the folder in which the program runs, if it is in or below that.
+/// may be none. If nothing is at the path, the search begins in the nearest folder above it. The path of the file is from
+/// the folder in which the program runs, if it is in or below that.
 pub fn settings_above<R: Files + Input + AllocGlobal>(
     rt: &R,
     rules: &[&str],
@@ -27,17 +31,13 @@ pub fn settings_above<R: Files + Input + AllocGlobal>(
     ensures meant { IfOk result (λ found. IfSome found (IsConfigured (texts rules.now))) }
     ensures named { IfOk result (λ found. IfSome found (λ c. IsInFolder (string_bytes c.source.file))) }
 {
-    let here = here(rt)?;
-    let itself = itself_of(rt, path, here.as_str())?;
-    for folder in Path::new(itself.as_str()).ancestors() {
-        if let Some(source) = source_in(rt, seen_from(here.as_str(), folder))? {
-            return Ok(Some(settings_in(rt.alloc(), rules, source)?));
-        }
+    match source_above(rt, path)? {
+        Some(source) => Ok(Some(settings_in(rt.alloc(), rules, source)?)),
+        None => Ok(None),
     }
-    Ok(None)
 }
 
-/// The settings of the file of this path.
+/// The settings of the file of this path, also if that is `-`.
 pub fn settings_at<R: Files + Input + AllocGlobal>(
     rt: &R,
     rules: &[&str],
@@ -46,10 +46,75 @@ pub fn settings_at<R: Files + Input + AllocGlobal>(
     ensures meant { IfOk result (IsConfigured (texts rules.now)) }
     ensures named { IfOk result (λ c. string_bytes c.source.file ≡ file.now) }
 {
-    match read_source(rt, file, file) {
+    match read_source(rt, not_input(file), file) {
         Ok(source) => settings_in(rt.alloc(), rules, source),
         Err(Unread::Memory) => Err(Unfit::Memory),
         Err(why) => Err(Unfit::Unread(String::from_str(rt.alloc(), file)?, why)),
+    }
+}
+
+// Settings are not read from standard input.
+fn not_input(path: &str) -> &str
+    ensures { ¬ (result.now ≡ codes "-") }
+{
+    if path == "-" { "./-" } else { path }
+}
+
+// The nearest file of settings to a path.
+fn source_above<R: Files + Input + AllocGlobal>(rt: &R, path: &str) -> Result<Option<Source>, Unfit>
+    ensures named { IfOk result (λ found. IfSome found (λ source. IsInFolder (string_bytes source.file))) }
+{
+    let there = nearest_there(rt, path)?;
+    match known(rt, there)? {
+        Some(known) => source_above_known(rt, known.as_str()),
+        None => source_above_unknown(rt, folder_at(rt, there)),
+    }
+}
+
+// The nearest file of settings to a path by which the system knows something.
+fn source_above_known<R: Files + Input + AllocGlobal>(
+    rt: &R,
+    path: &str,
+) -> Result<Option<Source>, Unfit>
+    ensures named { IfOk result (λ found. IfSome found (λ source. IsInFolder (string_bytes source.file))) }
+{
+    let here = known(rt, ".")?;
+    for folder in Path::new(path).ancestors() {
+        if let Some(source) = source_in(rt, seen_from(&here, folder))? {
+            return Ok(Some(source));
+        }
+    }
+    Ok(None)
+}
+
+// The nearest file of settings to a folder whose path is not known, as it is not UTF-8. One above it may be known.
+fn source_above_unknown<R: Files + Input + AllocGlobal>(
+    rt: &R,
+    folder: &str,
+) -> Result<Option<Source>, Unfit>
+    ensures named { IfOk result (λ found. IfSome found (λ source. IsInFolder (string_bytes source.file))) }
+{
+    let mut folder = String::from_str(rt.alloc(), folder)?;
+    for _ in 0..MOST {
+        if let Some(source) = source_in(rt, Path::new(folder.as_str()))? {
+            return Ok(Some(source));
+        }
+        folder = folder_above(rt.alloc(), folder.as_str())?;
+        if let Some(known) = known(rt, folder.as_str())? {
+            return source_above_known(rt, known.as_str());
+        }
+    }
+    Ok(None)
+}
+
+// The folder above a folder.
+fn folder_above(alloc: Global, folder: &str) -> Result<String, AllocError>
+    ensures { IfOk result (λ above. IsAbove folder.now (string_bytes above)) }
+{
+    let folder = Path::new(folder);
+    match (folder.file_name(), folder.parent()) {
+        (Some(_), Some(above)) => String::from_str(alloc, above.as_str()),
+        _ => Ok(folder.join(alloc, "..")?.into_string()),
     }
 }
 
@@ -69,32 +134,54 @@ fn source_in<R: Files + Input + AllocGlobal>(
     }
 }
 
+// The path, or the nearest above it, at which something is; if that is not known, the folder in which the program runs.
+fn nearest_there<'p>(rt: &impl Files, path: &'p str) -> Result<&'p str, AllocError> {
+    for above in Path::new(path).ancestors() {
+        match fs::metadata(rt, above) {
+            Ok(_) => return Ok(above.as_str()),
+            Err(error) if is_absent(error) => {}
+            Err(error) if error.kind() == ErrorKind::OutOfMemory => return Err(AllocError),
+            Err(_) => return Ok("."),
+        }
+    }
+    Ok(".")
+}
+
+// The folder that is at a path, or in which the file is that is there. The one in which the program runs has no name.
+fn folder_at<'p>(rt: &impl Files, path: &'p str) -> &'p str {
+    if path == "." {
+        return "";
+    }
+    match fs::metadata(rt, path) {
+        Ok(data) if data.is_dir() => path,
+        _ => match Path::new(path).parent() {
+            Some(folder) => folder.as_str(),
+            None => "",
+        },
+    }
+}
+
+// Whether nothing is at a path. At one that is too long nothing is.
 fn is_absent(error: io::Error) -> bool {
-    matches!(error.kind(), ErrorKind::NotFound | ErrorKind::NotADirectory)
+    matches!(
+        error.kind(),
+        ErrorKind::NotFound | ErrorKind::NotADirectory | ErrorKind::InvalidFilename
+    )
 }
 
-// The path of the folder from the one in which the program runs, if it is in or below that.
-fn seen_from<'p>(here: &str, folder: Path<'p>) -> Path<'p> {
-    match folder.strip_prefix(here) {
-        Ok(rest) => rest,
-        Err(_) => folder,
+// The path of the folder from the one in which the program runs, if that is known and the folder is in or below it.
+fn seen_from<'p>(here: &Option<String>, folder: Path<'p>) -> Path<'p> {
+    match here {
+        Some(here) => folder.strip_prefix(here.as_str()).unwrap_or(folder),
+        None => folder,
     }
 }
 
-// The path by which the system knows the file; if it knows none, that of the folder in which the program runs.
-fn itself_of<R: Files + AllocGlobal>(rt: &R, path: &str, here: &str) -> Result<String, AllocError> {
+// The path by which the system knows what is at a path, if it knows one that is UTF-8.
+fn known<R: Files + AllocGlobal>(rt: &R, path: &str) -> Result<Option<String>, AllocError> {
     match fs::canonicalize(rt, path) {
-        Ok(itself) => Ok(itself.into_string()),
+        Ok(known) => Ok(Some(known.into_string())),
         Err(error) if error.kind() == ErrorKind::OutOfMemory => Err(AllocError),
-        Err(_) => String::from_str(rt.alloc(), here),
-    }
-}
-
-// The folder in which the program runs.
-fn here<R: Files + AllocGlobal>(rt: &R) -> Result<String, Unfit> {
-    match fs::canonicalize(rt, ".") {
-        Ok(here) => Ok(here.into_string()),
-        Err(error) if error.kind() == ErrorKind::OutOfMemory => Err(Unfit::Memory),
-        Err(error) => Err(Unfit::Unread(String::from_str(rt.alloc(), ".")?, Unread::Failed(error))),
+        Err(_) => Ok(None),
     }
 }

@@ -1,8 +1,8 @@
 //! Where the paths of a file of settings lead.
 
-ghost use Rattle.std.specs.Prelude.{◌≡◌, IfOk, string_bytes};
-ghost use Rattle.std.specs.Path.{path_join};
-ghost use Rattle.settings_files.specs.Paths.{folder_of};
+ghost use Rattle.std.specs.Prelude.{◌≡◌, [], length, map, unwrap_or, IfOk, string_bytes};
+ghost use Rattle.tera_settings.specs.Values.{texts_view};
+ghost use Rattle.settings_files.specs.Paths.{ArePlaces, all_led_from, led_from};
 
 use crate::configured::Configured;
 use crate::unfit::Unfit;
@@ -23,25 +23,15 @@ pub struct Places {
 }
 
 /// Where the paths of the file lead. It is an error if nothing is there, or no folder at the root.
-pub fn places_of<R: Files + AllocGlobal>(rt: &R, file: &Configured) -> Result<Places, Unfit> {
+pub fn places_of<R: Files + AllocGlobal>(rt: &R, file: &Configured) -> Result<Places, Unfit>
+    ensures { IfOk result (ArePlaces file.now) }
+{
     let root = match &file.settings.root {
         Some(root) => Some(folder_there(rt, file, "root", root.as_str())?),
         None => None,
     };
-    let mut libraries = Vec::new(rt.alloc());
-    push_paths(
-        rt,
-        file,
-        "libraries",
-        &file.settings.libraries,
-        &mut libraries,
-    )?;
-    let mut exclude = Vec::new(rt.alloc());
-    if let Some(paths) = &file.settings.exclude {
-        for path in paths {
-            exclude.push(known_path(rt, file, "exclude", path.as_str())?)?;
-        }
-    }
+    let libraries = paths_there(rt, file, "libraries", &file.settings.libraries)?;
+    let exclude = known_paths(rt, file, "exclude", &file.settings.exclude)?;
     Ok(Places {
         root,
         libraries,
@@ -49,20 +39,39 @@ pub fn places_of<R: Files + AllocGlobal>(rt: &R, file: &Configured) -> Result<Pl
     })
 }
 
-fn push_paths<R: Files + AllocGlobal>(
+fn paths_there<R: Files + AllocGlobal>(
     rt: &R,
     file: &Configured,
     key: &str,
     paths: &Option<Vec<String>>,
-    to: &mut Vec<String>,
-) -> Result<(), Unfit> {
-    let Some(paths) = paths else {
-        return Ok(());
-    };
-    for path in paths {
-        to.push(path_there(rt, file, key, path.as_str())?)?;
+) -> Result<Vec<String>, Unfit>
+    ensures { IfOk result (λ there. map string_bytes there.items
+        ≡ all_led_from (string_bytes file.now.source.file) (unwrap_or (texts_view paths.now) [])) }
+{
+    let mut there = Vec::new(rt.alloc());
+    if let Some(paths) = paths {
+        for path in paths {
+            there.push(path_there(rt, file, key, path.as_str())?)?;
+        }
     }
-    Ok(())
+    Ok(there)
+}
+
+fn known_paths<R: Files + AllocGlobal>(
+    rt: &R,
+    file: &Configured,
+    key: &str,
+    paths: &Option<Vec<String>>,
+) -> Result<Vec<String>, Unfit>
+    ensures { IfOk result (λ known. length known.items ≡ length (unwrap_or (texts_view paths.now) [])) }
+{
+    let mut known = Vec::new(rt.alloc());
+    if let Some(paths) = paths {
+        for path in paths {
+            known.push(known_path(rt, file, key, path.as_str())?)?;
+        }
+    }
+    Ok(known)
 }
 
 // The path from the folder in which the program runs. It is an error of the key if nothing is there.
@@ -71,7 +80,9 @@ fn path_there<R: Files + AllocGlobal>(
     file: &Configured,
     key: &str,
     path: &str,
-) -> Result<String, Unfit> {
+) -> Result<String, Unfit>
+    ensures { IfOk result (λ there. string_bytes there ≡ led_from (string_bytes file.now.source.file) path.now) }
+{
     let there = path_from(rt.alloc(), file.source.file.as_str(), path)?;
     match fs::metadata(rt, there.as_str()) {
         Ok(_) => Ok(there),
@@ -85,7 +96,9 @@ fn folder_there<R: Files + AllocGlobal>(
     file: &Configured,
     key: &str,
     path: &str,
-) -> Result<String, Unfit> {
+) -> Result<String, Unfit>
+    ensures { IfOk result (λ there. string_bytes there ≡ led_from (string_bytes file.now.source.file) path.now) }
+{
     let there = path_from(rt.alloc(), file.source.file.as_str(), path)?;
     match fs::metadata(rt, there.as_str()) {
         Ok(data) if data.is_dir() => Ok(there),
@@ -113,7 +126,7 @@ fn known_path<R: Files + AllocGlobal>(
 
 // What a path in a file of settings is: a path from the folder of that file.
 fn path_from(alloc: Global, file: &str, path: &str) -> Result<String, AllocError>
-    ensures { IfOk result (λ p. string_bytes p ≡ path_join (folder_of file.now) path.now) }
+    ensures { IfOk result (λ there. string_bytes there ≡ led_from file.now path.now) }
 {
     match Path::new(file).parent() {
         Some(folder) => Ok(folder.join(alloc, path)?.into_string()),

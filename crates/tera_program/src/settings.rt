@@ -13,13 +13,10 @@ use crate::markers;
 use crate::markers::{other_markers_of, steady_markers_of, why_unfit};
 use crate::output::{print_error, print_unread};
 use crate::reading::name_of;
-use crate::site::folder_of;
 use settings_files::{
     Configured, Places, Unfit, WrongFile, places_of, settings_above, settings_at,
 };
 use std::alloc::{AllocError, Global};
-use std::fs;
-use std::path::Path;
 use std::rt::Files;
 use tera_check::Severity;
 use tera_settings::{Level, RuleLevel, Settings};
@@ -162,24 +159,8 @@ fn found_for<R: Files + Input + AllocGlobal>(
         return Ok(None);
     }
     match common.config {
-        Some(file) => Ok(Some(settings_at(rt, OPTIONAL_RULES.as_slice(), not_input(file))?)),
-        None => {
-            let beside = there_or_folder(rt, name_of(path, common.stdin));
-            settings_above(rt, OPTIONAL_RULES.as_slice(), beside)
-        }
-    }
-}
-
-// The path of the file, also if its name is `-`, as settings are not read from standard input.
-fn not_input(path: &str) -> &str {
-    if path == "-" { "./-" } else { path }
-}
-
-// The path; or its folder, if nothing is there, as for a new file that an editor has not saved.
-fn there_or_folder<'p>(rt: &impl Files, path: &'p str) -> &'p str {
-    match fs::metadata(rt, path) {
-        Ok(_) => path,
-        Err(_) => folder_of(Path::new(path)),
+        Some(file) => Ok(Some(settings_at(rt, OPTIONAL_RULES.as_slice(), file)?)),
+        None => settings_above(rt, OPTIONAL_RULES.as_slice(), name_of(path, common.stdin)),
     }
 }
 

@@ -55,8 +55,7 @@ fn name_of<R: Files + AllocGlobal>(
     }
 }
 
-/// The folder in which a file is.
-pub(crate) fn folder_of(path: Path<'_>) -> &str {
+fn folder_of(path: Path<'_>) -> &str {
     match path.parent() {
         Some(folder) if folder.as_str() != "" => folder.as_str(),
         _ => ".",
