@@ -31,7 +31,7 @@ abbrev pub circular_extends : List ℕ → Span → FindingVal
 circular_extends name span = FindingOf kinds.CircularExtends span (circular_extends_text name) []
 
 abbrev pub circular_include_text : List ℕ → List ℕ
-circular_include_text name = codes "Template `" ++ (name ++ codes "` includes this template, which includes it")
+circular_include_text name = codes "Template `" ++ (name ++ codes "` includes or extends this template, which includes it")
 
 abbrev pub circular_include : List ℕ → Span → FindingVal
 circular_include name span = FindingOf kinds.CircularInclude span (circular_include_text name) []

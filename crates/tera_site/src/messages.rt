@@ -19,11 +19,11 @@ pub(crate) fn circular_extends(alloc: Global, name: &str) -> Result<String, Allo
     format!(in alloc; "Template `{name}` extends this template, which extends it")
 }
 
-/// That the template of this name, which the template includes, includes it.
+/// That the template of this name, which the template includes, includes or extends it.
 pub(crate) fn circular_include(alloc: Global, name: &str) -> Result<String, AllocError>
     ensures { IfOk result (λ m. string_bytes m ≡ circular_include_text name.now) }
 {
-    format!(in alloc; "Template `{name}` includes this template, which includes it")
+    format!(in alloc; "Template `{name}` includes or extends this template, which includes it")
 }
 
 /// That no template has this block that the template extends.

@@ -62,9 +62,9 @@ lost:1:17: error[missing-template]: No template is named `nowhere`
 itself:1:12: error[circular-extends]: Template `itself` extends this template, which extends it
 one:1:12: error[circular-extends]: Template `two` extends this template, which extends it
 two:1:12: error[circular-extends]: Template `one` extends this template, which extends it
-again:1:22: warning[circular-include]: Template `again` includes this template, which includes it
-first:1:12: warning[circular-include]: Template `second` includes this template, which includes it
-second:1:28: warning[circular-include]: Template `third` includes this template, which includes it
+again:1:22: warning[circular-include]: Template `again` includes or extends this template, which includes it
+first:1:12: warning[circular-include]: Template `second` includes or extends this template, which includes it
+second:1:28: warning[circular-include]: Template `third` includes or extends this template, which includes it
 includes:1:12: error[missing-template]: No template is named `absent`
 alone:1:4: warning[super-without-parent]: `super()` is in no block
 alone:1:30: warning[super-without-parent]: `super()` has no value: no template that this one extends has a block named `z`
