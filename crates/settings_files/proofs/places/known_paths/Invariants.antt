@@ -3,4 +3,4 @@ use Rattle.settings_files.proofs.places.known_paths.Given as goal
 
 -- as many as the paths so far
 abbrev pub invariant-loop-path : goal.invariant-loop-path
-invariant-loop-path l = length l.known.items ≡ l.path-index
+invariant-loop-path g l = length l.known.items ≡ l.path-index
