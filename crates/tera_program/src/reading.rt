@@ -168,7 +168,10 @@ fn why_unlisted(
 fn without_templates(alloc: Global, common: Common<'_, '_>) -> Result<String, AllocError> {
     let extensions = extensions_of(alloc, common)?;
     if extensions.is_empty() {
-        return String::from_str(alloc, "no template is below this folder: `extensions` is empty");
+        return String::from_str(
+            alloc,
+            "no template is below this folder: `extensions` is empty",
+        );
     }
     let mut why = String::from_str(alloc, "no template is below this folder: no name ends in ")?;
     for (number, extension) in extensions.iter().enumerate() {
