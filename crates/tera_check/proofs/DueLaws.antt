@@ -1,12 +1,12 @@
 -- Laws of what is due.
 use Rattle.std.proofs.Common.{◌≡◌, ◌∙◌, ◌+◌, ◌-◌, ◌<◌, ◌≤◌, ℕ, zero, suc, Bool, true, false, cond, List, [], ◌∷◌, ◌++◌, Option, None, Some, Result, Ok, length, take, drop, get_or, string_bytes, refl, sym, subst, ap, arith, ⊎_elim}
-use Rattle.std.specs.Prelude.{◌&&◌, ◌||◌, ◌⊎◌, not, map, nat_le}
-use Rattle.std.specs.List.{Contains, filter}
+use Rattle.std.specs.Prelude.{◌&&◌, ◌||◌, ◌⊎◌, if◌then◌else◌, is_some, not, map, nat_le}
+use Rattle.std.specs.List.{Contains, filter, list_any}
 use Rattle.std.specs.Option.{option_map_or}
 use Rattle.std.specs.Str.{bytes_eq}
 use Rattle.std.proofs.lemmas.Bool.Decides.{nat_tests}
 use Rattle.std.proofs.lemmas.List.{length-drop, length-take-le, take-append-drop, take-append-le}
-use Rattle.std.proofs.lemmas.List.Elements.{filter_passes}
+use Rattle.std.proofs.lemmas.List.Elements.{Contains-append_cases, filter_passes}
 use Rattle.std.proofs.lemmas.Slice.Eq.{bytes_eq-Decides}
 use Rattle.tera_base.specs.declared.utils.Span.{Span}
 use Rattle.tera_grammar.specs.Limits.{usual}
@@ -22,11 +22,14 @@ use Rattle.tera_mend.proofs.Kept.{edits_keep, mends_keep, then}
 use Rattle.tera_mend.proofs.PlacesLemmas.{place_sound}
 use Rattle.tera_tree.specs.Outputs.{output_view}
 use Rattle.tera_tree.specs.declared.outputs.ParserOutput.{ParserOutput}
-use Rattle.tera_check.specs.Due.{bytes_between, due_findings, is_due, is_due_in, is_lost_in, is_same_part, is_undefined, is_written, mark_of, may_name, may_name_by, name_at}
+use Rattle.tera_check.specs.Boundaries.{bytes_between, is_same_part}
+use Rattle.tera_check.specs.Due.{due_among, due_findings, is_due, is_due_in, is_lost_in, is_undefined, is_written, mark_of, may_name, may_name_by, name_at}
 use Rattle.tera_check.specs.Findings.{FindingOf, FindingVal, NoteVal}
+use Rattle.tera_check.specs.Ignores.{IgnoreVal, ignores_view}
 use Rattle.tera_check.specs.Judged.{KnownVal}
 use Rattle.tera_check.specs.Mended.{IsMended}
 use Rattle.tera_check.specs.Named.{tree_by, tree_findings, tree_of}
+use Rattle.tera_check.specs.Silenced.{is_silenced, is_unused, silences, unused_among, unused_ignore, unused_ignores}
 use Rattle.tera_check.specs.declared.finding.Kind.TheVariants.{UnusedParameter}
 use Rattle.tera_check.specs.declared.mended.Mended.{Mended}
 use Rattle.tera_check.specs.declared.templates.Template.{Template}
@@ -55,29 +58,63 @@ all_kept p [] all = refl
 all_kept p (x ∷ xs) all = ap (λ b. cond b (x ∷ filter p xs) (filter p xs)) (all x) ∙ ap (λ ys. x ∷ ys) (all_kept p xs all)
 
 pub whole : (known : List ℕ → Option KnownVal) (number : ℕ) (t : Template) (o : ParserOutput) → t.parsed ≡ Ok o → t.mended ≡ None
-    → due_findings known false number t ≡ tree_findings known number t (output_view o)
+    → (let found = tree_findings known number t (output_view o) in
+    due_findings known false number t ≡ unused_ignores false t found ++ filter (λ f. not (is_silenced t f)) found)
 whole known number t o parsed mended =
-    ap (λ r. option_map_or (λ o. filter (is_due false t) (tree_findings known number t (output_view o))) (tree_by r t.mended) []) parsed
-    ∙ all_kept (is_due false t) (tree_findings known number t (output_view o)) (λ f. ap (λ m. is_due_in m f) mended)
+    let found = tree_findings known number t (output_view o) in
+    ap (λ r. option_map_or (λ o. due_among false t (tree_findings known number t (output_view o))) (tree_by r t.mended) []) parsed
+    ∙ (λ i. unused_ignores false t found ++ filter (λ f. is_due_in (mended i) f && not (is_silenced t f)) found)
+
+-- .. that has no ignores
+pub without_ignores : (known : List ℕ → Option KnownVal) (number : ℕ) (t : Template) (o : ParserOutput) → t.parsed ≡ Ok o → t.mended ≡ None → t.ignores.items ≡ []
+    → due_findings known false number t ≡ tree_findings known number t (output_view o)
+without_ignores known number t o parsed mended none =
+    let found = tree_findings known number t (output_view o) in
+    whole known number t o parsed mended
+    ∙ (λ i. (if is_some (mended i) then [] else unused_among false found (ignores_view (none i))) ++ filter (λ f. not (list_any (λ g. silences g f) (ignores_view (none i)))) found)
+    ∙ all_kept (λ f. true) found (λ f. refl)
 
 passes : {X : Type 0} (p : X → Bool) (xs : List X) (x : X) → Contains (filter p xs) x → p x ≡ true
 passes p xs x (k, below, here) = subst (λ y. p y ≡ true) here (filter_passes p xs k x below)
 
-due_by : (known : List ℕ → Option KnownVal) (open_text : Bool) (number : ℕ) (t : Template) (r : Option ParserOutput) (f : FindingVal)
-    → Contains (option_map_or (λ o. filter (is_due open_text t) (tree_findings known number t (output_view o))) r []) f → is_due open_text t f ≡ true
-due_by known open_text number t None f (k, below, here) = absurd (omega arith)
-due_by known open_text number t (Some o) f is = passes (is_due open_text t) (tree_findings known number t (output_view o)) f is
+-- what is due is defined, if texts may define more: also an ignore that silences nothing is
+each_defined : (is : List IgnoreVal) (k : ℕ) (d : FindingVal) → k < length (map unused_ignore is) → is_undefined (get_or (map unused_ignore is) k d) ≡ false
+each_defined [] k d below = absurd (omega arith)
+each_defined (i ∷ is) zero d below = refl
+each_defined (i ∷ is) (suc k) d below = each_defined is k d (omega arith)
 
-pub due : (known : List ℕ → Option KnownVal) (open_text : Bool) (number : ℕ) (t : Template) (f : FindingVal) → Contains (due_findings known open_text number t) f → is_due open_text t f ≡ true
-due known open_text number t f is = due_by known open_text number t (tree_of t) f is
+unused_defined : (whole : Bool) (is : List IgnoreVal) (f : FindingVal) → Contains (if whole then [] else map unused_ignore is) f → is_undefined f ≡ false
+unused_defined true is f (k, below, here) = absurd (omega arith)
+unused_defined false is f (k, below, here) = subst (λ g. is_undefined g ≡ false) here (each_defined is k f below)
+
+defined_by : (known : List ℕ → Option KnownVal) (number : ℕ) (t : Template) (r : Option ParserOutput) (f : FindingVal)
+    → Contains (option_map_or (λ o. due_among true t (tree_findings known number t (output_view o))) r []) f → is_undefined f ≡ false
+defined_by known number t None f (k, below, here) = absurd (omega arith)
+defined_by known number t (Some o) f is =
+    let found = tree_findings known number t (output_view o) in
+    ⊎_elim (λ unused. unused_defined (is_some t.mended) (filter (is_unused true found) (ignores_view t.ignores.items)) f unused)
+    (λ due. is_not (is_undefined f) (and_left (not (is_undefined f)) _ (passes (is_due true t) found f due)))
+    (Contains-append_cases (unused_ignores true t found) (filter (is_due true t) found) f is)
 
 pub defined : (known : List ℕ → Option KnownVal) (number : ℕ) (t : Template) (f : FindingVal) → Contains (due_findings known true number t) f → is_undefined f ≡ false
-defined known number t f is = is_not (is_undefined f) (and_left (not (is_undefined f)) (is_due_in t.mended f) (due known true number t f is))
+defined known number t f is = defined_by known number t (tree_of t) f is
+
+-- in a text with faults no ignore is reported
+none_unused : (open_text : Bool) (t : Template) (m : Mended) (found : List FindingVal) → t.mended ≡ Some m → unused_ignores open_text t found ≡ []
+none_unused open_text t m found mended = ap (λ o. if is_some o then [] else unused_among open_text found (ignores_view t.ignores.items)) mended
+
+due_by : (known : List ℕ → Option KnownVal) (open_text : Bool) (number : ℕ) (t : Template) (m : Mended) (r : Option ParserOutput) (f : FindingVal) → t.mended ≡ Some m
+    → Contains (option_map_or (λ o. due_among open_text t (tree_findings known number t (output_view o))) r []) f → is_due open_text t f ≡ true
+due_by known open_text number t m None f mended (k, below, here) = absurd (omega arith)
+due_by known open_text number t m (Some o) f mended is =
+    let found = tree_findings known number t (output_view o) in
+    passes (is_due open_text t) found f (subst (λ us. Contains (us ++ filter (is_due open_text t) found) f) (none_unused open_text t m found mended) is)
 
 due_in : (known : List ℕ → Option KnownVal) (open_text : Bool) (number : ℕ) (t : Template) (m : Mended) (f : FindingVal) → t.mended ≡ Some m → Contains (due_findings known open_text number t) f
     → is_due_in (Some m) f ≡ true
 due_in known open_text number t m f mended is =
-    sym (ap (λ m. is_due_in m f) mended) ∙ and_right (not (open_text && is_undefined f)) (is_due_in t.mended f) (due known open_text number t f is)
+    sym (ap (λ m. is_due_in m f) mended)
+    ∙ and_left (is_due_in t.mended f) _ (and_right (not (open_text && is_undefined f)) _ (due_by known open_text number t m (tree_of t) f mended is))
 
 -- ---- a parameter that is reported as unused
 
@@ -115,7 +152,7 @@ ends_keep : (cut : Bool) (rest : List EditVal) (source reached text : List ℕ) 
     → AreInPlace (take n source) (take n text)
 ends_keep false rest source reached text n ends keeps within there = kept_before source text n (subst (Keeps source) (sym ends.1) keeps) within
 ends_keep true rest source reached text n ends keeps within there =
-    ⊎_elim (λ edits. kept_before source text n (then source reached text keeps (edits_keep rest reached text edits)) within)
+    ⊎_elim (λ edits. kept_before source text n ((then) source reached text keeps (edits_keep rest reached text edits)) within)
     (λ none.
     let zero_long : n ≡ 0 = omega (arith, ap length none) in
     subst (λ k. AreInPlace (take k source) (take k text)) (sym zero_long) tt)

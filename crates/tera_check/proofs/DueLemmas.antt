@@ -11,7 +11,7 @@ use Rattle.std.specs.declared.ops.Bound.TheVariants.{Excluded, Included, Unbound
 use Rattle.std.proofs.lemmas.Bool.Decides.{nat_tests}
 use Rattle.std.proofs.lemmas.List.{map-append}
 use Rattle.tera_lexer.specs.grammar.Place.{begins_character}
-use Rattle.tera_check.specs.Due.{is_boundary}
+use Rattle.tera_check.specs.Boundaries.{is_boundary}
 use Rattle.tera_check.specs.Findings.{FindingVal, finding_view}
 use Rattle.tera_check.specs.declared.finding.Finding.{Finding}
 

@@ -9,12 +9,13 @@ use Rattle.tera_base.specs.ErrorView.{error_view}
 use Rattle.tera_base.specs.declared.utils.Span.{Span}
 use Rattle.tera_lexer.specs.grammar.Place.{joined, place_after, span_of}
 use Rattle.tera_mend.specs.declared.mending.Fault.{Fault}
-use Rattle.tera_check.specs.Findings.{FindingOf, FindingVal, NoteVal, finding_view, hint_notes}
+use Rattle.tera_check.specs.Findings.{FoundAs, FindingVal, NoteVal, finding_view, hint_notes}
 use Rattle.tera_check.specs.FaultFindings.{AreOfEach, IsAt, IsOfFaultBy, IsPartOf, IsWordOf, walk_view}
 use Rattle.tera_check.specs.declared.causes.Cause.{Cause}
 use Rattle.tera_check.specs.declared.fault_findings.Met.{Met}
 use Rattle.tera_check.specs.declared.finding.Finding.{Finding}
 use Rattle.tera_check.specs.declared.finding.Kind.{Kind}
+use Rattle.tera_check.specs.declared.finding.Severity.{Severity}
 use Rattle.tera_check.specs.declared.walk.Walk.{Walk}
 use Rattle.tera_check.proofs.WalkLemmas.{parts}
 
@@ -41,13 +42,13 @@ part_of_word source c place word is = record {
 
 -- ---- a finding with its cause
 
-pub noted : (file : List ℕ) (kind : Kind) (text : List ℕ) (span other : Span) (old one two new causes : List NoteVal) (hint more all : Option (List ℕ)) → span ≡ other
+pub noted : (file : List ℕ) (kind : Kind) (severity : Severity) (text : List ℕ) (span other : Span) (old one two new causes : List NoteVal) (hint more all : Option (List ℕ)) → span ≡ other
     → one ≡ old ++ hint_notes file span hint → two ≡ one ++ causes → new ≡ two ++ hint_notes file span more → more ≡ all
-    → FindingOf kind span text new ≡ FindingOf kind other text (((old ++ hint_notes file other hint) ++ causes) ++ hint_notes file other all)
-noted file kind text span other old one two new causes hint more all same first second third last =
+    → FoundAs kind severity span text new ≡ FoundAs kind severity other text (((old ++ hint_notes file other hint) ++ causes) ++ hint_notes file other all)
+noted file kind severity text span other old one two new causes hint more all same first second third last =
     let notes : new ≡ ((old ++ hint_notes file span hint) ++ causes) ++ hint_notes file span more =
     third ∙ ap (λ ns. ns ++ hint_notes file span more) (second ∙ ap (λ ns. ns ++ causes) first) in
-    ap (λ ns. FindingOf kind span text ns) notes ∙ (λ i. FindingOf kind (same i) text (((old ++ hint_notes file (same i) hint) ++ causes) ++ hint_notes file (same i) (last i)))
+    ap (λ ns. FoundAs kind severity span text ns) notes ∙ (λ i. FoundAs kind severity (same i) text (((old ++ hint_notes file (same i) hint) ++ causes) ++ hint_notes file (same i) (last i)))
 
 -- ---- one more fault that was met
 

@@ -1,12 +1,14 @@
 pub mod AlikeLemmas
 pub mod CatalogueLemmas
 pub mod CheckedLemmas
+pub mod ConditionsLemmas
 pub mod DueLaws
 pub mod DueLemmas
 pub mod FaultFindingsLemmas
 pub mod FaultLemmas
 pub mod FoundLemmas
 pub mod HintsLemmas
+pub mod IgnoreLemmas
 pub mod JudgedLemmas
 pub mod ParametersLemmas
 pub mod PassedLemmas
@@ -15,7 +17,10 @@ pub mod PlaceLemmas
 pub mod ReadLemmas
 pub mod RepeatedLemmas
 pub mod RulesLemmas
+pub mod SilencedLemmas
 pub mod SpansLemmas
 pub mod TakenLemmas
 pub mod WalkLemmas
 pub mod WordLemmas
+pub mod RegisteredLemmas
+pub mod UnknownLemmas

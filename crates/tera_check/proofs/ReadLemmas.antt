@@ -22,6 +22,7 @@ use Rattle.tera_statements.specs.declared.names.Names.{Names}
 use Rattle.tera_tree.specs.Outputs.{output_view}
 use Rattle.tera_tree.specs.declared.outputs.ParserOutput.{ParserOutput}
 use Rattle.tera_check.specs.Faults.{IsSyntaxError, IsSyntaxErrorKind, is_memory, is_memory_kind}
+use Rattle.tera_check.specs.Ignores.{AreIgnoresBy, AreIgnoresIn, AreIgnoresOfMended, ignores_view}
 use Rattle.tera_check.specs.Mended.{IsMended, text_by, text_of}
 use Rattle.tera_check.specs.Named.{tree_by, tree_of}
 use Rattle.tera_check.specs.declared.mended.Mended.{Mended}
@@ -81,3 +82,15 @@ IsReadAs file source most m = IsMended file source most m.0 × AreOf (string_byt
 
 pub read_as : (file source : List ℕ) (most : ℕ) (o : Option (Mended × Names)) (m : Mended × Names) → o ≡ Some m → IfSome o (IsReadAs file source most) → IsReadAs file source most m
 read_as file source most o m is read = subst (λ o. IfSome o (IsReadAs file source most)) is read
+
+-- ---- the ignores of a template with a fault
+
+pub fault_ignores : (marks : Marks) (source : List ℕ) (t : Template) (e : Error) → t.parsed ≡ Err e
+    → MatchOption t.mended (t.ignores.items ≡ []) (λ m. AreIgnoresOfMended source m (ignores_view t.ignores.items)) → AreIgnoresIn marks source t
+fault_ignores marks source t e is held =
+    subst (λ r. AreIgnoresBy marks source r t.mended (ignores_view t.ignores.items)) (sym is) (by t.mended held)
+  where
+    by : (m : Option Mended) → MatchOption m (t.ignores.items ≡ []) (λ m. AreIgnoresOfMended source m (ignores_view t.ignores.items))
+        → AreIgnoresBy marks source (Err e) m (ignores_view t.ignores.items)
+    by None none = ap ignores_view none
+    by (Some m) are = are

@@ -1,6 +1,7 @@
 -- All parts of a tree by those that are to come, and what is found in a part.
 use Rattle.std.proofs.Common.{◌≡◌, ◌∙◌, ℕ, List, [], ◌∷◌, ◌++◌, refl, sym, ap, append_assoc, append-nil}
 use Rattle.std.specs.List.{flat_map}
+use Rattle.std.proofs.lemmas.List.{map-append}
 use Rattle.tera_base.specs.Spanned.{node_of}
 use Rattle.tera_base.specs.declared.utils.Spanned.{Spanned}
 use Rattle.tera_ast.specs.Tree.{Expr, Const, Array, Map, Var, GetAttr, GetItem, Slice, Filter, Test, Ternary, ListComprehension, ComponentCall, FunctionCall, UnaryOperation, BinaryOperation}
@@ -11,7 +12,7 @@ use Rattle.tera_ast.specs.declared.ast.Expression.{Expression}
 use Rattle.tera_ast.specs.declared.ast.Expression.TheVariants as code
 use Rattle.tera_ast.specs.declared.ast.MapOf.{MapOf}
 use Rattle.tera_ast.proofs.Views.{view_map}
-use Rattle.tera_tree.specs.Parts.{PartVal, NodePart, ExpressionPart, parts_view, parts_of_maybe, parts_of_filters, parts_of_args, parts_of_items, parts_of_entries, parts_of_nodes, parts_in_expression, parts_in_node, children}
+use Rattle.tera_tree.specs.Parts.{PartVal, NodePart, ExpressionPart, part_view, parts_view, parts_of_maybe, parts_of_filters, parts_of_args, parts_of_items, parts_of_entries, parts_of_nodes, parts_in_expression, parts_in_node, children}
 use Rattle.tera_tree.specs.declared.parts.Part.{Part}
 use Rattle.tera_check.specs.Findings.{FindingVal}
 use Rattle.tera_check.specs.Repeated.{repeated_findings}
@@ -115,6 +116,13 @@ taken file old now p start found h k =
     (λ i. k i ++ flat_map (part_findings file) (all_parts (h i)))
     ∙ append_assoc start (part_findings file p) rest
     ∙ ap (λ ps. start ++ flat_map (part_findings file) ps) (sym (last_part old p))
+
+-- the last of the parts that are to come
+pub next_part : (file : List ℕ) (all rest : List Part) (p : Part) (start now total : List FindingVal) → all ≡ rest ++ p ∷ []
+    → start ++ flat_map (part_findings file) (all_parts (parts_view all)) ≡ total
+    → now ≡ start ++ flat_map (part_findings file) (all_parts (parts_view rest ++ (part_view p ∷ []))) → now ≡ total
+next_part file all rest p start now total split held step =
+    step ∙ ap (λ ps. start ++ flat_map (part_findings file) (all_parts ps)) (sym (ap parts_view split ∙ map-append part_view rest (p ∷ []))) ∙ held
 
 -- no part is left
 pub all_taken : (file : List ℕ) (ps : List Part) (found all : List FindingVal) → found ++ flat_map (part_findings file) (all_parts (parts_view ps)) ≡ all → ps ≡ [] → found ≡ all

@@ -9,7 +9,7 @@ use Rattle.tera_lexer.specs.grammar.Place.{place_after, span_of}
 use Rattle.tera_lexer.specs.declared.lexer.place.Place.{Place}
 use Rattle.tera_mend.specs.declared.mending.Fault.{Fault}
 use Rattle.tera_tree.specs.declared.outputs.ParserOutput.{ParserOutput}
-use Rattle.tera_check.specs.Findings.{NoteVal, NoteOf, FindingVal, FindingOf, IsOfError, hint_notes}
+use Rattle.tera_check.specs.Findings.{NoteVal, NoteOf, FindingVal, FoundAs, IsOfError, hint_notes}
 use Rattle.tera_check.specs.Hints.{hint_in}
 use Rattle.tera_check.specs.declared.causes.Cause.{Cause}
 use Rattle.tera_check.specs.declared.causes.Says.{Says}
@@ -72,13 +72,13 @@ IsHintAt source message at hint =
     (hint ≡ hint_in message (take at source) (drop at source)) ⊎ ((IsCharBoundary source at → ⊥) × (hint ≡ None))
 
 abbrev pub IsHintFor : List ℕ → FindingVal → Option (List ℕ) → Type 0
-IsHintFor source (FindingOf kind at text notes) hint = IsHintAt source text at.range.start hint
+IsHintFor source (FoundAs kind severity at text notes) hint = IsHintAt source text at.range.start hint
 
 -- a finding as it is of the fault alone, and with what it comes of: after the notes that it has come a hint, the cause, and
 -- that there are more
 abbrev pub with_cause : List ℕ → List ℕ → Span → List ℕ → Says → Option (List ℕ) → Bool → FindingVal → FindingVal
-with_cause file source place word says hint more (FindingOf kind at text notes) =
-    FindingOf kind (span_with source at says place) text
+with_cause file source place word says hint more (FoundAs kind severity at text notes) =
+    FoundAs kind severity (span_with source at says place) text
     (((notes ++ hint_notes file (span_with source at says place) hint) ++ cause_notes file at place word says)
     ++ hint_notes file (span_with source at says place) (more_if more))
 

@@ -40,23 +40,31 @@ kind_name kinds.RepeatedArgument = codes "repeated-argument"
 kind_name kinds.UnusedParameter = codes "unused-parameter"
 kind_name kinds.DefinedAgain = codes "defined-again"
 kind_name kinds.RepeatedKey = codes "repeated-key"
+kind_name kinds.RepeatedCondition = codes "repeated-condition"
+kind_name kinds.UnusedIgnore = codes "unused-ignore"
 kind_name kinds.MissingTemplate = codes "missing-template"
 kind_name kinds.CircularExtends = codes "circular-extends"
 kind_name kinds.CircularInclude = codes "circular-include"
 kind_name kinds.UndefinedBlock = codes "undefined-block"
 kind_name kinds.SuperWithoutParent = codes "super-without-parent"
+kind_name kinds.UnknownFilter = codes "unknown-filter"
+kind_name kinds.UnknownTest = codes "unknown-test"
+kind_name kinds.UnknownFunction = codes "unknown-function"
 
 -- all kinds
 abbrev pub all_kinds : List Kind
 all_kinds =
     kinds.Fault ∷ kinds.UndefinedComponent ∷ kinds.MissingArgument ∷ kinds.UnknownArgument ∷ kinds.WrongType ∷ kinds.RepeatedArgument ∷ kinds.UnusedParameter ∷ kinds.DefinedAgain ∷ kinds.RepeatedKey
-    ∷ kinds.MissingTemplate ∷ kinds.CircularExtends ∷ kinds.CircularInclude ∷ kinds.UndefinedBlock ∷ kinds.SuperWithoutParent ∷ []
+    ∷ kinds.RepeatedCondition ∷ kinds.UnusedIgnore ∷ kinds.MissingTemplate ∷ kinds.CircularExtends ∷ kinds.CircularInclude
+    ∷ kinds.UndefinedBlock ∷ kinds.SuperWithoutParent ∷ kinds.UnknownFilter ∷ kinds.UnknownTest ∷ kinds.UnknownFunction ∷ []
 
--- how grave a kind is: what a call, a body or a map does not use is a warning, all else an error
+-- how grave a kind is, unless another severity is set for it: what a call, a body or a map does not use is a warning, all else an error
 abbrev pub severity_of : Kind → Severity
 severity_of kinds.RepeatedArgument = severities.Warning
 severity_of kinds.UnusedParameter = severities.Warning
 severity_of kinds.RepeatedKey = severities.Warning
+severity_of kinds.RepeatedCondition = severities.Warning
+severity_of kinds.UnusedIgnore = severities.Warning
 severity_of kinds.CircularInclude = severities.Warning
 severity_of kinds.UndefinedBlock = severities.Warning
 severity_of kinds.SuperWithoutParent = severities.Warning
@@ -67,23 +75,27 @@ abbrev pub severity_name : Severity → List ℕ
 severity_name severities.Error = codes "error"
 severity_name severities.Warning = codes "warning"
 
--- what a line calls a finding of a kind: how grave it is, and the word for the kind
-abbrev pub label_of : Kind → List ℕ
-label_of kind = severity_name (severity_of kind) ++ (codes "[" ++ (kind_name kind ++ codes "]"))
+-- what a line calls a finding: how grave it is, and the word for its kind
+abbrev pub label_of : Kind → Severity → List ℕ
+label_of kind severity = severity_name severity ++ (codes "[" ++ (kind_name kind ++ codes "]"))
 
 -- a note: its file, the span there that it is about, and its text
 pub data NoteVal : Type 0 where
   NoteOf : List ℕ → Span → List ℕ → NoteVal
 
--- a finding: its kind, the span that it is about, its text, and its notes in order
+-- a finding: its kind, how grave it is, the span that it is about, its text, and its notes in order
 pub data FindingVal : Type 0 where
-  FindingOf : Kind → Span → List ℕ → List NoteVal → FindingVal
+  FoundAs : Kind → Severity → Span → List ℕ → List NoteVal → FindingVal
+
+-- .. as grave as its kind is
+abbrev pub FindingOf : Kind → Span → List ℕ → List NoteVal → FindingVal
+FindingOf kind = FoundAs kind (severity_of kind)
 
 abbrev pub note_view : Note → NoteVal
 note_view n = NoteOf (string_bytes n.file) n.span (string_bytes n.message)
 
 abbrev pub finding_view : Finding → FindingVal
-finding_view f = FindingOf f.kind f.span (string_bytes f.message) (map note_view f.notes.items)
+finding_view f = FoundAs f.kind f.severity f.span (string_bytes f.message) (map note_view f.notes.items)
 
 -- a hint for a fault whose text alone does not say what a user can do about it, or that a limit of this parser is met
 abbrev pub float_hint : List ℕ

@@ -6,8 +6,8 @@ use Rattle.json_members.specs.Members.{text_member, number_member}
 use Rattle.tera_base.specs.declared.utils.Span.{Span}
 use Rattle.tera_check.specs.declared.finding.Severity.{Severity}
 use Rattle.tera_check.specs.declared.finding.Severity.TheVariants.{Error}
-use Rattle.tera_check.specs.Findings.{place_of, end_of, first_span, kind_name, severity_of, severity_name}
-use Rattle.tera_check.specs.Findings.{NoteVal, NoteOf, FindingVal, FindingOf}
+use Rattle.tera_check.specs.Findings.{place_of, end_of, first_span, kind_name, severity_name}
+use Rattle.tera_check.specs.Findings.{NoteVal, NoteOf, FindingVal, FoundAs}
 
 -- the members that a finding and a note have: the file, where the span begins and ends, and the text
 unfoldable pub members : List ℕ → Span → List ℕ → List Token
@@ -33,8 +33,8 @@ object_with file span text severity word notes =
 
 -- the tokens of the object of a finding in a file
 abbrev pub object_of : List ℕ → FindingVal → List Token
-object_of file (FindingOf kind span text notes) =
-    object_with file span text (severity_of kind) (kind_name kind) notes
+object_of file (FoundAs kind severity span text notes) =
+    object_with file span text severity (kind_name kind) notes
 
 -- of a file that could not be read, and why: its place is the start of the file
 unfoldable pub unread_object : List ℕ → List ℕ → List Token

@@ -31,6 +31,7 @@ use crate::messages;
 use crate::messages::defined_again;
 use crate::parameters::push_all_unused;
 use crate::rules::push_all_small;
+use crate::silenced::push_unused_ignores;
 use crate::templates::{Template, tree_of};
 use std::alloc::{AllocError, Global};
 use tera_parser::ParserOutput;
@@ -39,8 +40,9 @@ use tera_parser::value::{Error, Span, Spanned};
 
 /// What is found in the template of this number, in the order of the places: its faults; and in its tree, or that of what
 /// is left of it, the components that a template before it defines too, the parameters that are never used, and what is
-/// found of its calls. Nothing is found that comes of what was written for a fault. `is_open` says that a template may
-/// define more components than the catalogue has ([`crate::is_open`]).
+/// found of its calls, except what its ignores silence; and the ignores that silence nothing. Nothing is found that comes
+/// of what was written for a fault. `is_open` says that a template may define more components than the catalogue has
+/// ([`crate::is_open`]).
 pub fn findings_of(
     alloc: Global,
     catalogue: &Catalogue<'_>,
@@ -59,7 +61,7 @@ pub fn findings_of(
     Ok(findings)
 }
 
-// Adds what is found in the tree of the template, and is due.
+// Adds what is found in the tree of the template and is due, and its ignores that silence nothing.
 fn push_all_due(
     alloc: Global,
     findings: &mut Vec<Finding>,
@@ -74,7 +76,8 @@ fn push_all_due(
     match tree_of(template) {
         Some(output) => {
             let found = findings_of_tree(alloc, catalogue, number, template, output)?;
-            push_due(findings, is_open, template, found)
+            push_unused_ignores(alloc, findings, is_open, template, &found)?;
+            push_due(alloc, findings, is_open, template, found)
         }
         None => Ok(()),
     }

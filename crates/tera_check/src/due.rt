@@ -4,18 +4,24 @@ ghost use Rattle.std.specs.Prelude.{◌≡◌, ◌∷◌, [], ◌++◌, ◌&&◌
 ghost use Rattle.std.specs.BTreeSet.{keys};
 ghost use Rattle.std.specs.List.{filter, find, list_any};
 ghost use Rattle.std.specs.Option.{option_map};
-ghost use Rattle.tera_check.specs.Due.{is_boundary, is_due, is_written, end_of_definition, is_doubtful, is_lost_between, is_same_part, mark_of, may_name, name_at};
+ghost use Rattle.tera_check.specs.Boundaries.{is_boundary, is_same_part, text_at};
+ghost use Rattle.tera_check.specs.Due.{is_due, is_written, end_of_definition, is_doubtful, is_due_in, is_lost_between, mark_of, may_name, name_at};
 ghost use Rattle.tera_check.specs.Findings.{finding_view};
+ghost use Rattle.tera_check.specs.Ignores.{ignores_view};
+ghost use Rattle.tera_check.specs.Silenced.{AreLinesOf, is_silenced, is_silenced_at};
 
 use crate::finding::{Finding, Kind, push_finding};
 use crate::mended::Mended;
+use crate::silenced::{Lines, has_line, silenced_lines};
 use crate::templates::Template;
-use std::alloc::AllocError;
+use std::alloc::{AllocError, Global};
 use std::collections::BTreeSet;
 use tera_parser::value::Span;
 
-/// Adds those of the findings that are due. `is_open` says that a text may define more components than are known.
+/// Adds those of the findings that are due: not those that an ignore of the template silences. `is_open` says that a text
+/// may define more components than are known.
 pub fn push_due(
+    alloc: Global,
     findings: &mut Vec<Finding>,
     is_open: bool,
     template: &Template,
@@ -24,8 +30,9 @@ pub fn push_due(
     ensures { OnOk result (map finding_view findings.new.items ≡ map finding_view findings.old.items
         ++ filter (is_due is_open template.now) (map finding_view found.items)) }
 {
+    let silenced = silenced_lines(alloc, &template.ignores)?;
     for finding in found {
-        push_if_due(findings, is_open, template, finding)?;
+        push_if_due(findings, is_open, template, &silenced, finding)?;
     }
     Ok(())
 }
@@ -34,28 +41,46 @@ fn push_if_due(
     findings: &mut Vec<Finding>,
     is_open: bool,
     template: &Template,
+    silenced: &Lines,
     finding: Finding,
 ) -> Result<(), AllocError>
+    requires { AreLinesOf (is_silenced_at (ignores_view template.now.ignores.items)) silenced.now }
     ensures { OnOk result (map finding_view findings.new.items ≡ map finding_view findings.old.items
         ++ filter (is_due is_open template.now) (finding_view finding ∷ [])) }
 {
-    if is_due(is_open, template, &finding) {
+    if is_due(is_open, template, silenced, &finding) {
         push_finding(findings, finding)
     } else {
         Ok(())
     }
 }
 
-fn is_due(is_open: bool, template: &Template, finding: &Finding) -> bool
+fn is_due(is_open: bool, template: &Template, silenced: &Lines, finding: &Finding) -> bool
+    requires { AreLinesOf (is_silenced_at (ignores_view template.now.ignores.items)) silenced.now }
     ensures { result ≡ is_due is_open template.now (finding_view finding.now) }
 {
     if is_open && finding.kind == Kind::UndefinedComponent {
         return false;
     }
-    match &template.mended {
+    is_due_in(&template.mended, finding) && !is_silenced(template, silenced, finding)
+}
+
+// Whether a fault cannot be the cause of the finding.
+fn is_due_in(mended: &Option<Mended>, finding: &Finding) -> bool
+    ensures { result ≡ is_due_in mended.now (finding_view finding.now) }
+{
+    match mended {
         Some(mended) => is_written(mended, finding) && !is_doubtful(mended, finding),
         None => true,
     }
+}
+
+// Whether an ignore of the template silences the finding. These are the lines that they cover.
+fn is_silenced(template: &Template, silenced: &Lines, finding: &Finding) -> bool
+    requires { AreLinesOf (is_silenced_at (ignores_view template.now.ignores.items)) silenced.now }
+    ensures { result ≡ is_silenced template.now (finding_view finding.now) }
+{
+    has_line(silenced, finding.kind.name(), finding.span.start_line)
 }
 
 // Whether the source has what the finding is about, at the same place.
@@ -66,8 +91,8 @@ fn is_written(mended: &Mended, finding: &Finding) -> bool
     is_same_part(mended.source.as_str(), mended.text.as_str(), start, end)
 }
 
-// Whether two texts have the same between these bytes.
-fn is_same_part(one: &str, other: &str, start: usize, end: usize) -> bool
+/// Whether two texts have the same between these bytes.
+pub(crate) fn is_same_part(one: &str, other: &str, start: usize, end: usize) -> bool
     ensures { result ≡ is_same_part one.now other.now (start, end) }
 {
     let Some(part) = one.as_bytes().get(start..end) else {
@@ -119,10 +144,15 @@ fn may_name(mended: &Mended, span: &Span) -> bool
 fn name_at<'m>(mended: &'m Mended, span: &Span) -> Option<&'m str>
     ensures { option_map (λ n. n.now) result ≡ name_at mended.now span.now }
 {
-    let source = mended.source.as_str();
-    let range = &span.range;
-    if is_boundary(source, range.start) && is_boundary(source, range.end) {
-        source.get(range.start..range.end)
+    text_at(mended.source.as_str(), span.range.start, span.range.end)
+}
+
+/// What the text has between these bytes, if they are between characters.
+pub(crate) fn text_at(text: &str, start: usize, end: usize) -> Option<&str>
+    ensures { option_map (λ n. n.now) result ≡ text_at text.now (start, end) }
+{
+    if is_boundary(text, start) && is_boundary(text, end) {
+        text.get(start..end)
     } else {
         None
     }

@@ -7,7 +7,7 @@ ghost use Rattle.tera_base.specs.ErrorView as errors;
 ghost use Rattle.tera_check.specs.Findings.{finding_view, note_view, first_span, note_of, finding_of, hint_of, hint_notes, FindingOf, IsOfError, NoteOf};
 ghost use Rattle.tera_check.specs.declared.finding.Kind.TheVariants as kinds;
 
-use crate::finding::{Finding, Kind, Note};
+use crate::finding::{Finding, Kind, Note, Severity};
 use crate::spans::first_span;
 use std::alloc::{AllocError, Global};
 use tera_parser::value;
@@ -33,6 +33,7 @@ fn finding_of_report(alloc: Global, file: &str, report: &ReportError) -> Result<
     push_hint(alloc, &mut notes, file, report)?;
     Ok(Finding {
         kind: Kind::Fault,
+        severity: Severity::Error,
         span: report.span.copied(),
         message: report.message.clone()?,
         notes,

@@ -34,6 +34,10 @@ pub enum Kind {
     DefinedAgain,
     /// A value whose key is given again in the same map, so that it does not count.
     RepeatedKey,
+    /// A condition of an `if` or an `elif` that one before it in the chain is too.
+    RepeatedCondition,
+    /// A rule in a comment that silences findings of it, where there are none.
+    UnusedIgnore,
     /// A name that a template extends or includes, and that no template has.
     MissingTemplate,
     /// A template that is reached again by what it extends.
@@ -44,10 +48,16 @@ pub enum Kind {
     UndefinedBlock,
     /// A `super()` in a block that no template has that this one extends, or in none.
     SuperWithoutParent,
+    /// A filter that the program does not have.
+    UnknownFilter,
+    /// A test that the program does not have.
+    UnknownTest,
+    /// A function that the program does not have.
+    UnknownFunction,
 }
 
 /// All kinds of findings.
-pub const KINDS: [Kind; 14] = [
+pub const KINDS: [Kind; 19] = [
     Kind::Fault,
     Kind::UndefinedComponent,
     Kind::MissingArgument,
@@ -57,11 +67,16 @@ pub const KINDS: [Kind; 14] = [
     Kind::UnusedParameter,
     Kind::DefinedAgain,
     Kind::RepeatedKey,
+    Kind::RepeatedCondition,
+    Kind::UnusedIgnore,
     Kind::MissingTemplate,
     Kind::CircularExtends,
     Kind::CircularInclude,
     Kind::UndefinedBlock,
     Kind::SuperWithoutParent,
+    Kind::UnknownFilter,
+    Kind::UnknownTest,
+    Kind::UnknownFunction,
 ];
 
 /// How grave a finding is.
@@ -77,6 +92,7 @@ pub enum Severity {
 #[derive(Debug, Drop)]
 pub struct Finding {
     pub kind: Kind,
+    pub severity: Severity,
     pub span: Span,
     pub message: String,
     pub notes: Vec<Note>,
@@ -140,15 +156,20 @@ impl Kind {
             Kind::UnusedParameter => "unused-parameter",
             Kind::DefinedAgain => "defined-again",
             Kind::RepeatedKey => "repeated-key",
+            Kind::RepeatedCondition => "repeated-condition",
+            Kind::UnusedIgnore => "unused-ignore",
             Kind::MissingTemplate => "missing-template",
             Kind::CircularExtends => "circular-extends",
             Kind::CircularInclude => "circular-include",
             Kind::UndefinedBlock => "undefined-block",
             Kind::SuperWithoutParent => "super-without-parent",
+            Kind::UnknownFilter => "unknown-filter",
+            Kind::UnknownTest => "unknown-test",
+            Kind::UnknownFunction => "unknown-function",
         }
     }
 
-    /// How grave each finding of the kind is.
+    /// How grave a finding of the kind is, unless another severity is set for it.
     pub fn severity(self) -> Severity
         ensures { result ≡ severity_of self }
     {
@@ -160,21 +181,26 @@ impl Kind {
             | Kind::WrongType
             | Kind::DefinedAgain
             | Kind::MissingTemplate
+            | Kind::UnknownFilter
+            | Kind::UnknownTest
+            | Kind::UnknownFunction
             | Kind::CircularExtends => Severity::Error,
             Kind::RepeatedArgument
             | Kind::UnusedParameter
             | Kind::RepeatedKey
+            | Kind::RepeatedCondition
+            | Kind::UnusedIgnore
             | Kind::CircularInclude
             | Kind::UndefinedBlock
             | Kind::SuperWithoutParent => Severity::Warning,
         }
     }
 
-    /// What lines call a finding of the kind, as `error[missing-argument]`.
-    pub fn label(self, alloc: Global) -> Result<String, AllocError>
-        ensures { IfOk result (λ label. string_bytes label ≡ label_of self) }
+    /// What lines call a finding of the kind that is so grave, as `error[missing-argument]`.
+    pub fn label(self, alloc: Global, severity: Severity) -> Result<String, AllocError>
+        ensures { IfOk result (λ label. string_bytes label ≡ label_of self severity) }
     {
-        let (severity, rule) = (self.severity().name(), self.name());
+        let (severity, rule) = (severity.name(), self.name());
         format!(in alloc; "{severity}[{rule}]")
     }
 }
@@ -205,12 +231,13 @@ impl Finding {
         Place::of(&self.span)
     }
 
-    // A finding without notes.
-    pub(crate) fn new(alloc: Global, kind: Kind, span: &Span, message: String) -> Finding
+    /// A finding without notes, as grave as its kind is.
+    pub fn new(alloc: Global, kind: Kind, span: &Span, message: String) -> Finding
         ensures { finding_view result ≡ FindingOf kind span.now (string_bytes message) [] }
     {
         Finding {
             kind,
+            severity: kind.severity(),
             span: span.copied(),
             message,
             notes: Vec::new(alloc),

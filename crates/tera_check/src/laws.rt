@@ -1,7 +1,7 @@
 //! Laws of what is found: each function has the law as its promise and does nothing.
 
-ghost use Rattle.std.specs.Prelude.{◌≡◌, ◌+◌, ◌++◌, ℕ, List, Bool, true, false, Option, None, Some, Ok, length, string_bytes};
-ghost use Rattle.std.specs.List.{Contains};
+ghost use Rattle.std.specs.Prelude.{◌≡◌, ◌+◌, ◌++◌, [], ℕ, List, Bool, true, false, not, Option, None, Some, Ok, length, string_bytes};
+ghost use Rattle.std.specs.List.{Contains, filter};
 ghost use Rattle.tera_base.specs.declared.utils.Span.{Span};
 ghost use Rattle.tera_mend.specs.Spans.{HasPart};
 ghost use Rattle.tera_tree.specs.Outputs.{output_view};
@@ -15,6 +15,7 @@ ghost use Rattle.tera_check.specs.Findings.{FindingOf, FindingVal, NoteVal, hint
 ghost use Rattle.tera_check.specs.Judged.{KnownVal};
 ghost use Rattle.tera_check.specs.Mended.{IsMended};
 ghost use Rattle.tera_check.specs.Named.{tree_findings};
+ghost use Rattle.tera_check.specs.Silenced.{is_silenced, unused_ignores};
 ghost use Rattle.tera_check.specs.declared.finding.Kind.TheVariants.{UnusedParameter};
 ghost use Rattle.tera_check.specs.declared.mended.Mended.{Mended};
 ghost use Rattle.tera_check.specs.declared.templates.Template.{Template};
@@ -33,10 +34,16 @@ pub fn floats_have_a_hint()
     ensures { (b : ℕ) (bs more : List ℕ) → hint_of (fault_text (Float b bs more)) ≡ Some float_hint }
 {}
 
-/// Of a template with a tree all that is found there is due, where no text may define more components than are known.
+/// Of a template without a fault all that is found in its tree is due, except what its ignores silence, where no text may
+/// define more components than are known; and its ignores that silence nothing of it. So without ignores it is all.
 pub fn whole_texts_are_checked_whole()
-    ensures { (known : List ℕ → Option KnownVal) (number : ℕ) (t : Template) (o : ParserOutput) →
-        t.parsed ≡ Ok o → t.mended ≡ None →
+    ensures silenced { (known : List ℕ → Option KnownVal) (number : ℕ) (t : Template)
+        (o : ParserOutput) → t.parsed ≡ Ok o → t.mended ≡ None →
+        (let found = tree_findings known number t (output_view o) in
+        due_findings known false number t
+        ≡ unused_ignores false t found ++ filter (λ f. not (is_silenced t f)) found) }
+    ensures whole { (known : List ℕ → Option KnownVal) (number : ℕ) (t : Template)
+        (o : ParserOutput) → t.parsed ≡ Ok o → t.mended ≡ None → t.ignores.items ≡ [] →
         due_findings known false number t ≡ tree_findings known number t (output_view o) }
 {}
 

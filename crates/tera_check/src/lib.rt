@@ -6,13 +6,16 @@
 //!
 //! In the order of reading: specs `Findings`, `Calls`, `Passed`, `Repeated`, `Judged`, `Parameters`, `Within`, `Rules`,
 //! `Named`, `OrderAndStatus`, `Objects`, `Faults`, `Alike`; `templates`, which reads, `spans`, and `parents` (specs
-//! `Parents`); `mended`, what a
-//! source with faults is read as (specs `Mended`), and `lost`, its words (specs `Lost`); `catalogue`; `calls`, over the
-//! parts of a tree (specs `Pending`); `repeated`, `passed`, `arguments` and `judged`, of one call; `parameters`, of one
-//! component (specs `Scopes`); `rules`, of each part by itself, with `repeated_keys` (specs `RepeatedKeys`); `due`,
-//! what of that is reported beside faults (specs `Due`); `checked`, of a template, and `found`, of all; `messages`,
-//! texts; `finding`, `faults`; `fault_findings`, with `causes`, `tags`, `hints` and `walk` (specs `FaultFindings`,
-//! `Hints`); `objects`; `laws`.
+//! `Parents`); `mended`, what a source with faults is read as (specs `Mended`), and `lost`, its words (specs `Lost`);
+//! `ignores`, the comments that silence findings (specs `Boundaries`, `Ignores`); `catalogue`; `calls`, over the parts of
+//! a tree (specs `Pending`); `repeated`, `passed`, `arguments` and `judged`, of one call; `parameters`, of one component
+//! (specs `Scopes`); `rules`, of each part by itself, with `repeated_keys` and `repeated_conditions` (specs
+//! `RepeatedKeys`, `RepeatedConditions`); `silenced` (specs `Silenced`), and `due`, what of that is reported beside
+//! faults (specs `Due`); `checked`, of a template, and `found`, of all; `registered`, the names that a program registers
+//! (specs `Registered`), and `unknown`, of each part by these, with `unknown_filters`, `unknown_tests` and
+//! `unknown_functions` (specs `Unknown`, `UnknownFilters` ..); `levels`, what of all that is reported (specs `Levels`);
+//! `messages`, texts; `finding`, `faults`; `fault_findings`, with `causes`, `tags`, `hints` and `walk` (specs
+//! `FaultFindings`, `Hints`); `objects`; `laws`.
 #![tactic(auto)]
 
 mod arguments;
@@ -26,8 +29,10 @@ mod faults;
 mod finding;
 mod found;
 mod hints;
+mod ignores;
 mod judged;
 pub mod laws;
+mod levels;
 mod lost;
 mod mended;
 mod messages;
@@ -35,12 +40,19 @@ mod objects;
 mod parameters;
 mod parents;
 mod passed;
+mod registered;
 mod repeated;
+mod repeated_conditions;
 mod repeated_keys;
 mod rules;
+mod silenced;
 mod spans;
 mod tags;
 mod templates;
+mod unknown;
+mod unknown_filters;
+mod unknown_functions;
+mod unknown_tests;
 mod walk;
 
 pub use calls::calls_of;
@@ -50,9 +62,13 @@ pub use due::push_due;
 pub use faults::finding_of_fault;
 pub use finding::{Finding, KINDS, Kind, Note, Place, Severity};
 pub use found::{Found, all_found};
+pub use ignores::Ignore;
+pub use levels::{Levels, RuleLevel, leave_reported};
 pub use mended::Mended;
 pub use objects::{object_of, put_object, unread_object_of};
+pub use registered::Registered;
 pub use spans::first_span;
 pub use templates::{
     Template, definitions_of, is_open, read_template, read_template_between, tree_of,
 };
+pub use unknown::add_unknown;

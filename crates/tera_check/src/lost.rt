@@ -62,7 +62,8 @@ fn is_between(text: &str, word: &str, start: usize, end: usize) -> bool
     }
 }
 
-fn put_place(
+/// Adds the place under the word.
+pub(crate) fn put_place(
     alloc: Global,
     places: &mut BTreeMap<String, BTreeSet<usize>>,
     word: &str,

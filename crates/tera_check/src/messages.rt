@@ -8,6 +8,11 @@ ghost use Rattle.tera_check.specs.FaultFindings.{not_closed_text, closes_nothing
 ghost use Rattle.tera_check.specs.Judged.{undefined_text, here_text, again_text, first_text};
 ghost use Rattle.tera_check.specs.Parameters.{unused_text};
 ghost use Rattle.tera_check.specs.Repeated.{repeated_text, next_text};
+ghost use Rattle.tera_check.specs.RepeatedConditions.{again_condition_text, earlier_text};
+ghost use Rattle.tera_check.specs.Silenced.{no_finding_text, no_rule_text};
+ghost use Rattle.tera_check.specs.UnknownFilters.{unknown_filter_text};
+ghost use Rattle.tera_check.specs.UnknownFunctions.{unknown_function_text};
+ghost use Rattle.tera_check.specs.UnknownTests.{unknown_test_text};
 ghost use Rattle.tera_check.specs.declared.repeated.Holder.TheVariants as holders;
 
 use std::alloc::{AllocError, Global};
@@ -36,6 +41,20 @@ pub(crate) fn repeated_key(alloc: Global, key: &Key) -> Result<String, AllocErro
         ≡ repeated_text holders.Map (key_text (key_view key.now))) }
 {
     format!(in alloc; "Key `{key}` is given more than once in the map. This value does not count.")
+}
+
+/// That the condition is one before it in the chain.
+pub(crate) fn condition_again(alloc: Global) -> Result<String, AllocError>
+    ensures { IfOk result (λ m. string_bytes m ≡ again_condition_text) }
+{
+    String::from_str(alloc, "This condition is the same as one before it")
+}
+
+/// Where that one is.
+pub(crate) fn earlier_condition(alloc: Global) -> Result<String, AllocError>
+    ensures { IfOk result (λ m. string_bytes m ≡ earlier_text) }
+{
+    String::from_str(alloc, "the same condition")
 }
 
 /// Where the argument or the key is given again.
@@ -77,6 +96,20 @@ pub(crate) fn first_defined(alloc: Global) -> Result<String, AllocError>
     String::from_str(alloc, "first defined here")
 }
 
+/// That the ignore silences no finding of the rule.
+pub(crate) fn unused_ignore(alloc: Global, rule: &str) -> Result<String, AllocError>
+    ensures { IfOk result (λ m. string_bytes m ≡ no_finding_text rule.now) }
+{
+    format!(in alloc; "No finding of the rule `{rule}` is silenced here")
+}
+
+/// That the ignore names what is not a rule.
+pub(crate) fn unknown_rule(alloc: Global, rule: &str) -> Result<String, AllocError>
+    ensures { IfOk result (λ m. string_bytes m ≡ no_rule_text rule.now) }
+{
+    format!(in alloc; "No rule is named `{rule}`")
+}
+
 /// That nothing closes what the word opens.
 pub(crate) fn not_closed(alloc: Global, word: &str) -> Result<String, AllocError>
     ensures { IfOk result (λ m. string_bytes m ≡ not_closed_text word.now) }
@@ -103,4 +136,25 @@ pub(crate) fn met_here(alloc: Global) -> Result<String, AllocError>
     ensures { IfOk result (λ m. string_bytes m ≡ met_text) }
 {
     String::from_str(alloc, "met here, as the tag is not closed")
+}
+
+/// That there is no filter of this name.
+pub(crate) fn unknown_filter(alloc: Global, name: &str) -> Result<String, AllocError>
+    ensures { IfOk result (λ m. string_bytes m ≡ unknown_filter_text name.now) }
+{
+    format!(in alloc; "No filter is named `{name}`")
+}
+
+/// That there is no test of this name.
+pub(crate) fn unknown_test(alloc: Global, name: &str) -> Result<String, AllocError>
+    ensures { IfOk result (λ m. string_bytes m ≡ unknown_test_text name.now) }
+{
+    format!(in alloc; "No test is named `{name}`")
+}
+
+/// That there is no function of this name.
+pub(crate) fn unknown_function(alloc: Global, name: &str) -> Result<String, AllocError>
+    ensures { IfOk result (λ m. string_bytes m ≡ unknown_function_text name.now) }
+{
+    format!(in alloc; "No function is named `{name}`")
 }

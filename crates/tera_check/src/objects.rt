@@ -31,7 +31,7 @@ pub fn put_object(writer: &mut Writer, file: &str, finding: &Finding) -> Result<
     ensures { Puts result writer.old writer.new (object_of file.now (finding_view finding.now)) }
 {
     let (message, notes) = (finding.message.as_str(), &finding.notes);
-    let (severity, word) = (finding.kind.severity(), finding.kind.name());
+    let (severity, word) = (finding.severity, finding.kind.name());
     put_with(writer, file, &finding.span, message, severity, word, notes)
 }
 

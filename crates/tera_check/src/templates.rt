@@ -14,11 +14,14 @@ ghost use Rattle.tera_tree.specs.Outputs.{output_view};
 ghost use Rattle.tera_tree.specs.Tree.{Output};
 ghost use Rattle.tera_tree.specs.View.{definition_view};
 ghost use Rattle.tera_check.specs.Faults.{IsSyntaxError, is_memory};
+ghost use Rattle.tera_check.specs.Ignores.{AreIgnoresIn, AreIgnoresOfMended, ignore_view, ignores_view, is_kept};
 ghost use Rattle.tera_check.specs.Mended.{IsMended, text_of};
 ghost use Rattle.tera_check.specs.Named.{definitions_of, tree_of};
 ghost use Rattle.tera_check.specs.Lost.{is_open};
 ghost use Rattle.tera_check.specs.Parents.{IsParentAt};
 
+use crate::due::is_same_part;
+use crate::ignores::{Ignore, ignores_of};
 use crate::mended::{Mended, read_mended};
 use crate::parents::parent_at;
 use crate::spans::spans_of;
@@ -44,6 +47,8 @@ pub struct Template {
     pub parameters_at: BTreeMap<String, BTreeMap<String, Span>>,
     /// Where the name is of the template that it extends: the string.
     pub parent_at: Option<Span>,
+    /// The rules that its comments silence.
+    pub ignores: Vec<Ignore>,
 }
 
 /// Reads the template in the file of this name. At most so many of its faults are reported; with 0 only the first is
@@ -74,12 +79,14 @@ pub fn read_template(
         × (grouped_of t.parameters_at ≡ group_all names.parameters nothing_grouped))) }
     ensures parent { IfOk result (λ t. MatchOption (tree_of t) (t.parent_at ≡ None)
         (λ o. IsParentAt (text_of source.now t) (output_view o).parent t.parent_at)) }
+    ensures ignores { IfOk result (AreIgnoresIn default_marks source.now) }
 {
     let Template {
         file: name,
         parsed,
         defined_at,
         parameters_at,
+        ignores,
         ..
     } = read_template_between(alloc, file, source, Delimiters::default())?;
     match parsed {
@@ -92,6 +99,7 @@ pub fn read_template(
                 defined_at,
                 parameters_at,
                 parent_at,
+                ignores,
             })
         }
         Err(error) => with_fault(alloc, name, source, error, faults),
@@ -119,6 +127,7 @@ pub fn read_template_between(
     ensures notes { IfOk result (λ t. IfErr t.parsed (NotesName file.now)) }
     ensures alone { IfOk result (λ t. t.mended ≡ None) }
     ensures parent { IfOk result (λ t. t.parent_at ≡ None) }
+    ensures ignores { IfOk result (AreIgnoresIn (marks_of markers) source.now) }
     ensures places { IfOk result (λ t. MatchOption (tree_of t)
         ((t.defined_at.items ≡ []) × (grouped_of t.parameters_at ≡ nothing_grouped))
         (λ o. (names : Places)
@@ -127,6 +136,7 @@ pub fn read_template_between(
         × (grouped_of t.parameters_at ≡ group_all names.parameters nothing_grouped))) }
 {
     let name = String::from_str(alloc, file)?;
+    let ignores = ignores_of(alloc, source, &markers)?;
     match parsed(alloc, file, source, markers) {
         Ok((output, names)) => {
             let defined_at = spans_of(alloc, &names, &output.component_definitions)?;
@@ -137,6 +147,7 @@ pub fn read_template_between(
                 defined_at,
                 parameters_at: names.parameters,
                 parent_at: None,
+                ignores,
             })
         }
         Err(error) => {
@@ -168,12 +179,15 @@ fn with_fault(
         × (grouped_of t.parameters_at ≡ group_all names.parameters nothing_grouped))) }
     ensures parent { IfOk result (λ t. MatchOption t.mended (t.parent_at ≡ None)
         (λ m. IsParentAt (string_bytes m.text) (output_view m.output).parent t.parent_at)) }
+    ensures ignores { IfOk result (λ t. MatchOption t.mended (t.ignores.items ≡ [])
+        (λ m. AreIgnoresOfMended source.now m (ignores_view t.ignores.items))) }
 {
     let Some((mended, names)) = read_mended(alloc, file.as_str(), source, faults)? else {
         return Ok(without_tree(alloc, file, error));
     };
     let defined_at = spans_of(alloc, &names, &mended.output.component_definitions)?;
     let parent_at = parent_if_any(alloc, &mended.output, mended.text.as_str())?;
+    let ignores = ignores_of_mended(alloc, source, &mended)?;
     Ok(Template {
         file,
         parsed: Err(error),
@@ -181,6 +195,7 @@ fn with_fault(
         defined_at,
         parameters_at: names.parameters,
         parent_at,
+        ignores,
     })
 }
 
@@ -188,7 +203,7 @@ fn with_fault(
 fn without_tree(alloc: Global, file: String, error: Error) -> Template
     ensures { (result.file ≡ file) × (result.parsed ≡ Err error) × (result.mended ≡ None)
         × (result.defined_at.items ≡ []) × (grouped_of result.parameters_at ≡ nothing_grouped)
-        × (result.parent_at ≡ None) }
+        × (result.parent_at ≡ None) × (result.ignores.items ≡ []) }
 {
     Template {
         file,
@@ -197,7 +212,29 @@ fn without_tree(alloc: Global, file: String, error: Error) -> Template
         defined_at: Vec::new(alloc),
         parameters_at: BTreeMap::new(alloc),
         parent_at: None,
+        ignores: Vec::new(alloc),
     }
+}
+
+// The ignores of a source with faults.
+fn ignores_of_mended(
+    alloc: Global,
+    source: &str,
+    mended: &Mended,
+) -> Result<Vec<Ignore>, AllocError>
+    ensures { IfOk result (λ v. AreIgnoresOfMended source.now mended.now (ignores_view v.items)) }
+{
+    let text = mended.text.as_str();
+    let mut ignores = ignores_of(alloc, text, &Delimiters::default())?;
+    ignores.retain(|ignore| is_kept(source, text, ignore));
+    Ok(ignores)
+}
+
+// Whether the source has the comment of the ignore at the same place as the text.
+fn is_kept(source: &str, text: &str, ignore: &Ignore) -> bool
+    ensures { result ≡ is_kept source.now text.now (ignore_view ignore.now) }
+{
+    is_same_part(source, text, ignore.span.range.start, ignore.span.range.end)
 }
 
 // Where the text of this tree has the name of the template that it extends.
@@ -249,8 +286,8 @@ pub fn is_open(template: &Template) -> bool
     }
 }
 
-// Whether an allocation failed.
-fn is_memory(error: &Error) -> bool
+/// Whether an allocation failed.
+pub(crate) fn is_memory(error: &Error) -> bool
     ensures { result ≡ is_memory error.now }
 {
     match error.kind {

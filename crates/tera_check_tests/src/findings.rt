@@ -28,6 +28,7 @@ fn finding(alloc: Global, kind: Kind) -> Result<Finding, AllocError> {
     })?;
     Ok(Finding {
         kind,
+        severity: kind.severity(),
         span: span(3, 3, 8),
         message: String::from_str(alloc, "\"x\"\n")?,
         notes,
@@ -49,6 +50,8 @@ fn what_is_not_used_is_a_warning(rt: HostRuntime) {
             Kind::RepeatedArgument
                 | Kind::UnusedParameter
                 | Kind::RepeatedKey
+                | Kind::RepeatedCondition
+                | Kind::UnusedIgnore
                 | Kind::CircularInclude
                 | Kind::UndefinedBlock
                 | Kind::SuperWithoutParent

@@ -8,6 +8,8 @@ mod definitions;
 #[cfg(test)]
 mod findings;
 #[cfg(test)]
+mod levels;
+#[cfg(test)]
 mod refusals;
 #[cfg(test)]
 mod workspaces;

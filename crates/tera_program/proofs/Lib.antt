@@ -1,10 +1,12 @@
 pub mod Defaults
+pub mod FixingLemmas
 pub mod Joined
+pub mod ListedLemmas
 pub mod Lists
 pub mod PlanLemmas
 pub mod ReadingLemmas
 pub mod Same
-pub mod SourcesLemmas
 pub mod SendLemmas
 pub mod ServingLemmas
+pub mod SourcesLemmas
 pub mod TreeLemmas

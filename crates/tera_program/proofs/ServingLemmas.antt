@@ -1,7 +1,7 @@
 -- What a server was reported, and what was written of it, one step more.
-use Rattle.std.proofs.Common.{◌≡◌, ◌∙◌, ◌<◌, ◌≤◌, ◌+◌, Bool, true, false, ◌++◌, ◌∷◌, [], inl, inr, ℕ, List, String, string_bytes, length, get_or, take, drop, Result, Ok, Err, IfOk, OnOk, OnErr, filter, map, Option, None, Some, refl, sym, ap, subst, append_assoc}
+use Rattle.std.proofs.Common.{◌≡◌, ◌∙◌, ◌<◌, ◌≤◌, ◌+◌, Bool, true, false, ◌++◌, ◌∷◌, [], inl, inr, ℕ, List, String, string_bytes, length, get_or, take, drop, Result, Ok, Err, IfOk, OnOk, OnErr, map, Option, None, Some, refl, sym, ap, subst, append_assoc}
 use Rattle.std.specs.Io.KnownBytes.{Appends, Consumes, IsAtEnd}
-use Rattle.std.specs.List.{flat_map, AllZip}
+use Rattle.std.specs.List.{flat_map}
 use Rattle.std.specs.Option.{option_map, option_to_list}
 use Rattle.std.specs.declared.alloc.Global.{Global}
 use Rattle.std.proofs.lemmas.List.{append-nil, map_push, map-append, take_more, take_all, take-append-drop}
@@ -16,17 +16,18 @@ use Rattle.message_frames.specs.declared.framing.Frame.{Frame}
 use Rattle.message_frames.specs.declared.framing.Frame.TheVariants as frames
 use Rattle.message_frames.proofs.Splitting.{begins_on, begins_grow, nothing_partial}
 use Rattle.message_frames.proofs.Taking.{never_waits, no_wait}
+use Rattle.tera_server.specs.Configuring.{IsUnconfigured}
+use Rattle.tera_server.specs.Sending.{unpublished_of}
 use Rattle.tera_server.specs.Settling.{due_of, IsSettling}
 use Rattle.tera_server.specs.declared.server.Ended.{Ended}
 use Rattle.tera_server.specs.declared.server.Phase.{Phase}
 use Rattle.tera_server.specs.declared.server.Phase.TheVariants.{New, Running, ShutDown}
 use Rattle.tera_server.specs.Steps.{ended_at}
-use Rattle.tera_server.specs.States.{text_on, why_on, is_there, IsLoadedAs, IsNotLoaded, needed_of, needed_view, KeepsReported}
+use Rattle.tera_server.specs.States.{text_on, why_on, is_there, IsLoadedAs, IsNotLoaded, edited_of, needed_of, needed_view, KeepsReported}
 use Rattle.tera_server.specs.KnownFiles.{IsKnownAs}
 use Rattle.tera_server.specs.declared.server.OnDisk.{OnDisk}
 use Rattle.tera_server.specs.declared.server.Server.{Server}
 use Rattle.tera_server.specs.declared.server.Needed.{Needed}
-use Rattle.tera_files.specs.Finding.{AreOf, AreOfAll}
 use Rattle.tera_program.specs.Serving.{Takes, SettlesSo, Settles, IsNew, IsAsked, IsLoaded, IsUnloaded, AreLoaded, AreLoadedInPart, LoadedNone, LoadedNext, Gives, Talks, Silent, Took, Settled, Given, Rounds, NoRound, NextRound, or_short, IsAtRest, IsOver, IsServed, IsTalking, ended_of, IsLeft, IsWaiting, Rests}
 use Rattle.tera_program.specs.declared.server.Left.{Left}
 use Rattle.tera_program.specs.declared.server.Left.TheVariants as lefts
@@ -53,15 +54,6 @@ pub asked_nothing : (w : Option Needed) (s t : Server) → w ≡ None → needed
     t ≡ record s { needed = t.needed } → IsAsked None s t
 asked_nothing w s t is needed none same =
     record { needed = needed ∙ ap (λ v. needed_of t ++ option_to_list (option_map needed_view v)) is; none = λ e. none is; same = same }
-
--- the files of a folder
-pub of_folder : (extensions : List (List ℕ)) (folder : List ℕ) (files : List (List ℕ)) → AreOfAll extensions (folder ∷ []) files → AreOf extensions folder files
-of_folder extensions folder files all = by all.pieces all.joined all.each
-  where
-    by : (pieces : List (List (List ℕ))) → files ≡ flat_map (λ piece. piece) pieces → AllZip (AreOf extensions) (folder ∷ []) pieces → AreOf extensions folder files
-    by [] joined each = absurd each
-    by (piece ∷ []) joined each = subst (AreOf extensions folder) (sym (joined ∙ append-nil piece)) each.0
-    by (piece ∷ more ∷ pieces) joined each = absurd each.1
 
 -- some of them were loaded, and one more is
 pub loaded_next : (s t u : Server) (files : List (String Global)) (i : ℕ) (file : String Global) → i < length files → file ≡ get_or files i file →
@@ -112,6 +104,10 @@ unloaded path s = record {
   same = refl;
   stays = record { encoding = refl; reported = λ n. refl; kept = λ k. k };
 }
+
+-- .. or to find settings
+pub unconfigured : (s : Server) → IsUnconfigured s s
+unconfigured s = record { same = refl; edited = ([], sym (append-nil (edited_of s))); unpublished = ([], sym (append-nil (unpublished_of s))) }
 
 -- a folder that is not read is not open
 pub unopened : (opened read : Bool) → (opened ≡ true → read ≡ true) → read ≡ false → opened ≡ false

@@ -23,6 +23,12 @@ abbrev pub checked_line : Checked → List ℕ
 checked_line c =
     counted c.files (codes "file") ++ (codes " checked, " ++ (findings_text c.findings c.faulty ++ with_count c.unread (codes "could not be read")))
 
+-- how much was put right
+abbrev pub fixed_line : ℕ → ℕ → List ℕ
+fixed_line findings files =
+    if findings == 0 then codes "nothing fixed\n"
+    else counted findings (codes "finding") ++ (codes " fixed in " ++ (counted files (codes "file") ++ codes "\n"))
+
 abbrev pub listed_line : Listed → List ℕ
 listed_line c =
     counted c.components (codes "component") ++ (codes " in " ++ (counted c.files (codes "file")

@@ -1,7 +1,6 @@
 -- What counts of what is found in templates.
 use Rattle.std.specs.Prelude.{ℕ, ◌^◌, ◌-◌, min, List, Bool, true, false, nat_lt, length}
 use Rattle.std.specs.List.{count_by, list_any, sum_by}
-use Rattle.tera_check.specs.Findings.{severity_of}
 use Rattle.tera_check.specs.declared.finding.Finding.{Finding}
 use Rattle.tera_check.specs.declared.finding.Severity.{Severity}
 use Rattle.tera_check.specs.declared.finding.Severity.TheVariants as severities
@@ -16,7 +15,7 @@ is_error severities.Error = true
 is_error severities.Warning = false
 
 abbrev pub is_of_error : Finding → Bool
-is_of_error finding = is_error (severity_of finding.kind)
+is_of_error finding = is_error finding.severity
 
 abbrev pub is_wrong : Found → Bool
 is_wrong found = list_any is_of_error found.findings.items

@@ -1,9 +1,12 @@
 -- What the words of the command line ask.
-use Rattle.std.specs.Prelude.{◌&&◌, ◌∷◌, [], ℕ, List, Bool, false, not, Option, None, Some, option_map, unwrap_or, if◌then◌else◌, bytes_eq, codes}
+use Rattle.std.specs.Prelude.{◌&&◌, ◌∷◌, [], ℕ, List, Bool, false, not, Option, None, Some, map, option_map, unwrap_or, if◌then◌else◌, bytes_eq, codes}
 use denote.Ref.{Bor}
 use Rattle.std.specs.List.{list_any}
 use Rattle.std.specs.Option.{option_or}
 use Rattle.clap.specs.Words.{Row, first_of, all_of}
+use Rattle.tera_check.specs.declared.finding.Severity.{Severity}
+use Rattle.tera_check.specs.declared.levels.Levels.{Levels}
+use Rattle.tera_check.specs.declared.levels.RuleLevel.{RuleLevel}
 use Rattle.tera_files.specs.Names.{texts}
 use Rattle.tera_program.specs.declared.colours.Colours.{Colours}
 use Rattle.tera_program.specs.declared.colours.Colours.TheVariants.{Auto, Always, Never}
@@ -19,7 +22,6 @@ use Rattle.tera_program.specs.declared.job.Job.TheVariants as jobs
 use Rattle.tera_program.specs.declared.job.Mode.{Mode}
 use Rattle.tera_program.specs.declared.job.Mode.TheVariants as modes
 use Rattle.tera_program.specs.declared.job.Tree.{Tree}
-use Rattle.tera_program.specs.declared.rules.Rules.{Rules}
 
 -- ---- what is seen of a job
 
@@ -47,17 +49,24 @@ common_view c = record {
   no_config = c.no_config;
 }
 
--- the rules that are asked for: those that are selected, ignored and off
+-- a rule, and what it is set to
+abbrev pub set_view : RuleLevel → List ℕ × Option Severity
+set_view r = (r.rule.now, r.level)
+
+abbrev pub sets_view : Bor (List RuleLevel) → List (List ℕ × Option Severity)
+sets_view set = map set_view set.now
+
+-- the rules that are selected and ignored, and what rules are set to
 pub record RulesVal : Type 0 where
   pub select : Option (List (List ℕ))
   pub ignore : Option (List (List ℕ))
-  pub off : Option (List (List ℕ))
+  pub set : List (List ℕ × Option Severity)
 
-abbrev pub rules_view : Rules → RulesVal
-rules_view r = record { select = lists_view r.select; ignore = lists_view r.ignore; off = lists_view r.off }
+abbrev pub rules_view : Levels → RulesVal
+rules_view r = record { select = lists_view r.select; ignore = lists_view r.ignore; set = sets_view r.set }
 
 pub data JobVal : Type 0 where
-  Checks : Form → Option (List (List ℕ)) → Option (List ℕ) → List ℕ → RulesVal → Bool → Option (List ℕ) → Option (List (List ℕ)) → CommonVal → JobVal
+  Checks : Form → Option (List (List ℕ)) → Option (List ℕ) → List ℕ → RulesVal → Bool → Bool → Option (List ℕ) → Option (List (List ℕ)) → CommonVal → JobVal
   Shows : Bool → Bool → Option (List ℕ) → List ℕ → CommonVal → JobVal
   Lists : Bool → Option (List ℕ) → Option (List (List ℕ)) → CommonVal → JobVal
   LaysOut : Mode → Option (List ℕ) → Option (List (List ℕ)) → CommonVal → JobVal
@@ -66,7 +75,7 @@ pub data JobVal : Type 0 where
 
 abbrev pub check_view : Check → JobVal
 check_view j =
-    Checks j.form (lists_view j.library) (option_map (λ r. r.now) j.root) j.max_faults.now (rules_view j.rules) j.error_on_warnings (option_map (λ m. m.now) j.markers)
+    Checks j.form (lists_view j.library) (option_map (λ r. r.now) j.root) j.max_faults.now (rules_view j.rules) j.error_on_warnings j.fix (option_map (λ m. m.now) j.markers)
     (lists_view j.files) (common_view j.common)
 
 abbrev pub tree_view : Tree → JobVal
@@ -91,7 +100,7 @@ job_view jobs.Server = Serves
 abbrev pub text_view : Option (Bor (List ℕ)) → Option (List ℕ)
 text_view = option_map (λ t. t.now)
 
--- options count before settings, and nothing is left out or off by an option
+-- options count before settings; by an option nothing is left out or set
 abbrev pub common_with : Defaults → CommonVal → CommonVal
 common_with d c = record {
   extensions = option_or c.extensions (lists_view d.extensions);
@@ -104,12 +113,12 @@ common_with d c = record {
 }
 
 abbrev pub rules_with : Defaults → RulesVal → RulesVal
-rules_with d r = record { select = r.select; ignore = r.ignore; off = lists_view d.off }
+rules_with d r = record { select = r.select; ignore = r.ignore; set = sets_view d.set }
 
 -- A job with settings: what no option says is as they say.
 abbrev pub with_defaults : Defaults → JobVal → JobVal
-with_defaults d (Checks form library root faults rules strict markers files common) =
-    Checks form (option_or library (lists_view d.library)) (option_or root (text_view d.root)) faults (rules_with d rules) strict (option_or markers (text_view d.markers)) files (common_with d common)
+with_defaults d (Checks form library root faults rules strict fix markers files common) =
+    Checks form (option_or library (lists_view d.library)) (option_or root (text_view d.root)) faults (rules_with d rules) strict fix (option_or markers (text_view d.markers)) files (common_with d common)
 with_defaults d (Shows json faulty markers file common) = Shows json faulty (option_or markers (text_view d.markers)) file common
 with_defaults d (Lists html markers files common) = Lists html (option_or markers (text_view d.markers)) files (common_with d common)
 with_defaults d (LaysOut mode markers files common) = LaysOut mode (option_or markers (text_view d.markers)) files (common_with d common)
@@ -174,14 +183,14 @@ common_of rows = record {
   no_config = is_set (codes "no-config") rows;
 }
 
--- nothing is off by the command line
+-- nothing is set by the command line
 abbrev pub rules_of : List Row → RulesVal
-rules_of rows = record { select = all_of (codes "select") rows; ignore = all_of (codes "ignore") rows; off = None }
+rules_of rows = record { select = all_of (codes "select") rows; ignore = all_of (codes "ignore") rows; set = [] }
 
 abbrev pub check_of : List Row → JobVal
 check_of rows =
     Checks (form_of (first_of (codes "output-format") rows)) (all_of (codes "library") rows) (first_of (codes "root") rows) (text_or [] (codes "max-faults") rows)
-    (rules_of rows) (is_set (codes "error-on-warnings") rows) (first_of (codes "markers") rows) (all_of (codes "files") rows) (common_of rows)
+    (rules_of rows) (is_set (codes "error-on-warnings") rows) (is_set (codes "fix") rows) (first_of (codes "markers") rows) (all_of (codes "files") rows) (common_of rows)
 
 abbrev pub tree_of : List Row → JobVal
 tree_of rows = Shows (is_set (codes "json") rows) (is_set (codes "faulty") rows) (first_of (codes "markers") rows) (text_or (codes "-") (codes "file") rows) (common_of rows)

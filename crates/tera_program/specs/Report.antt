@@ -4,14 +4,17 @@ use Rattle.std.specs.declared.alloc.AllocError.{AllocError}
 use Rattle.std.specs.Io.KnownBytes.{Appends, Keeps}
 use Rattle.std.specs.List.{list_any}
 use Rattle.std.specs.declared.io.Error.{Error}
-use Rattle.tera_check.specs.declared.finding.Finding.{Finding}
+use Rattle.tera_check.specs.Levels.{AreReportedOf}
+use Rattle.tera_check.specs.Registered.{RegisteredVal}
+use Rattle.tera_check.specs.Unknown.{AreWithUnknown}
+use Rattle.tera_check.specs.declared.finding.Kind.{Kind}
+use Rattle.tera_check.specs.declared.finding.Severity.{Severity}
 use Rattle.tera_check.specs.declared.templates.Template.{Template}
 use Rattle.terminal_text.specs.declared.style.Style.{Style}
 use Rattle.tera_program.specs.Forms.{text_of}
 use Rattle.tera_check.specs.Lost.{are_open}
 use Rattle.tera_check.specs.Found.{AreFound, found_view, known_by}
 use Rattle.tera_program.specs.Found.{count_in, faulty_in, is_wrong}
-use Rattle.tera_program.specs.Rules.{AreReportedOf}
 use Rattle.tera_program.specs.Sources.{Known, UnreadVal, nothing, unreadable_view, with_sources}
 use Rattle.tera_program.specs.declared.counting.Checked.{Checked}
 use Rattle.tera_check.specs.declared.found.Found.{Found}
@@ -32,18 +35,25 @@ abbrev pub AreWithNames : Option SiteNames → List Template → ℕ → List Fo
 AreWithNames None templates checked found all = all ≡ found
 AreWithNames (Some names) templates checked found all = AddsNames names templates checked found all
 
+-- what the program does not have is added, where it is known what it registers
+abbrev pub AreWithUnknownIf : Option RegisteredVal → List Template → ℕ → List Found → List Found → Type 0
+AreWithUnknownIf None templates checked found all = all ≡ found
+AreWithUnknownIf (Some r) templates checked found all = AreWithUnknown r templates checked found all
+
 -- all that is found in the templates
-pub record AreAllFound (templates : List Template) (names : Option SiteNames) (checked : ℕ) (all : List Found) : Type 0 where
+pub record AreAllFound (templates : List Template) (names : Option SiteNames) (registered : Option RegisteredVal) (checked : ℕ) (all : List Found) : Type 0 where
   pub found : List Found
   pub are : AreFound (known_by templates) (are_open templates) checked 0 templates found
-  pub named : AreWithNames names templates checked found all
+  pub named : List Found
+  pub with_names : AreWithNames names templates checked found named
+  pub with_unknown : AreWithUnknownIf registered templates checked named all
 
 -- what could not be read and what was found in the templates and is to be reported was written whole, or a beginning of it, and counted
-pub record IsReported (form : Form) (style : Style) (known : Known) (unread : List UnreadVal) (templates : List Template) (names : Option SiteNames) (checked : ℕ) (on : Finding → Bool) (old new : Option (List ℕ)) (report : Report) : Type 0 where
+pub record IsReported (form : Form) (style : Style) (known : Known) (unread : List UnreadVal) (templates : List Template) (names : Option SiteNames) (registered : Option RegisteredVal) (checked : ℕ) (level : Kind → Option Severity) (old new : Option (List ℕ)) (report : Report) : Type 0 where
   pub found : List Found
-  pub are : AreAllFound templates names checked found
+  pub are : AreAllFound templates names registered checked found
   pub all : List Found
-  pub reported : AreReportedOf on found all
+  pub reported : AreReportedOf level found all
   pub written : Takes old new (text_of form style known unread (map found_view all)) report.stopped
   pub errors : report.errors ≡ list_any is_wrong all
   pub findings : report.findings ≡ count_in all
@@ -62,10 +72,10 @@ ended_of (Err error) strict unread = record { found = false; failed = true }
 
 -- what was found in the templates was reported, and the program ends as that and the files that could not be read say;
 -- or an allocation failed, and nothing was written
-pub record IsChecked (form : Form) (style : Style) (on : Finding → Bool) (strict : Bool) (all : Templates) (old new : Option (List ℕ)) (ended : Ended) : Type 0 where
+pub record IsChecked (form : Form) (style : Style) (registered : Option RegisteredVal) (level : Kind → Option Severity) (strict : Bool) (all : Templates) (old new : Option (List ℕ)) (ended : Ended) : Type 0 where
   pub report : Result Report AllocError
   pub written : MatchResult report
       (IsReported form style (with_sources nothing all.sources.items) (map unreadable_view all.unread.items) all.templates.items
-      all.names all.checked on old new)
+      all.names registered all.checked level old new)
       (λ _. Keeps old new)
   pub ends : ended ≡ ended_of report strict (vec_len all.unread)

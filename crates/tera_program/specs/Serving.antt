@@ -1,5 +1,5 @@
 -- What `tera server` writes of what comes.
-use Rattle.std.specs.Prelude.{◌≡◌, ◌⊎◌, ⊤, ◌++◌, ℕ, Bool, true, false, List, [], ◌∷◌, filter, map, string_bytes, Option, None, Some}
+use Rattle.std.specs.Prelude.{◌≡◌, ◌⊎◌, ⊤, ◌++◌, ℕ, Bool, true, false, List, [], ◌∷◌, All, Contains, filter, map, string_bytes, Option, None, Some, unwrap_or}
 use Rattle.std.specs.Io.KnownBytes.{Appends, Consumes, IsAtEnd}
 use Rattle.std.specs.List.{flat_map, list_any}
 use Rattle.std.specs.Option.{option_to_list}
@@ -13,14 +13,17 @@ use Rattle.message_frames.specs.Representing.{Represents}
 use Rattle.message_frames.specs.Shown.{Shown, Message, TooLong, Bad, Wait, frame_of}
 use Rattle.message_frames.specs.Stream.{Item, Begins, IsPartial}
 use Rattle.message_frames.specs.Writing.{frame}
-use Rattle.tera_files.specs.Finding.{AreOf}
+use Rattle.tera_files.specs.Finding.{AreOfAll}
 use Rattle.tera_program.specs.declared.options.TheConstants.{EXTENSIONS}
 use Rattle.tera_program.specs.declared.server.Left.{Left}
 use Rattle.tera_program.specs.declared.server.Left.TheVariants as lefts
+use Rattle.tera_server.specs.Configuring.{AreAsked, IsConfiguredBy, IsUnconfigured}
+use Rattle.tera_server.specs.Settings.{SettingsVal, settings_for}
 use Rattle.tera_server.specs.Settling.{due_of, IsSettling, ArePublishedInPart}
 use Rattle.tera_server.specs.Sending.{unpublished_of}
-use Rattle.tera_server.specs.States.{known_of, text_on, why_on, IsLoadedAs, IsNotLoaded, NeededVal, NeedsFile, NeedsFolder, NeedsChanged, is_there, needed_of, edited_of, KeepsReported}
+use Rattle.tera_server.specs.States.{known_of, text_on, why_on, IsLoadedAs, IsNotLoaded, NeededVal, NeedsFile, NeedsFolder, NeedsChanged, is_there, needed_of, edited_of, Grows, KeepsReported}
 use Rattle.tera_server.specs.Steps.{ended_at, Step, IsRefused, IsUntaken}
+use Rattle.tera_server.specs.declared.configuring.FoundSettings.{FoundSettings}
 use Rattle.tera_server.specs.declared.server.Ended.{Ended}
 use Rattle.tera_server.specs.declared.server.Phase.TheVariants.{New, Running}
 use Rattle.tera_server.specs.KnownFiles.{is_known, known_names, IsKnownAs}
@@ -86,17 +89,27 @@ pub data AreLoaded (s : Server) : List (List ℕ) → Server → Type 0 where
   LoadedNext : (paths : List (List ℕ)) (path : List ℕ) (t u : Server) →
       AreLoaded s paths t → IsLoaded path t u → AreLoaded s (paths ++ path ∷ []) u
 
--- the ends of the names of templates
+-- the ends of the names of templates: the usual ones, and those of a path by the settings that count for it
 abbrev pub extensions : List (List ℕ)
 extensions = map (λ e. e.now) EXTENSIONS
+
+abbrev pub extensions_by : Option SettingsVal → List (List ℕ)
+extensions_by None = extensions
+extensions_by (Some settings) = unwrap_or settings.extensions extensions
+
+abbrev pub extensions_in : Server → List ℕ → List (List ℕ)
+extensions_in s path = extensions_by (settings_for s.settings (map string_bytes s.folders.items) path)
 
 -- files in a folder that were known are given again, in order
 abbrev pub AreKnownGiven : List ℕ → Server → Server → Type 0
 AreKnownGiven folder s t = AreLoaded s (filter (is_inside folder) (known_names s.known)) t
 
--- .. and those that the path of a folder means
+-- .. and those that the path of a folder means, except those that are left out
+abbrev pub AreListed : List (List ℕ) → List (List ℕ) → List (List ℕ) → Type 0
+AreListed extensions paths files = (all : List (List ℕ)) × AreOfAll extensions paths all × All (Contains all) files
+
 abbrev pub AreListedGiven : List ℕ → Server → Server → Type 0
-AreListedGiven folder s t = (files : List (List ℕ)) × AreOf extensions folder files × AreLoaded s files t
+AreListedGiven folder s t = (files : List (List ℕ)) × AreListed (extensions_in s folder) (folder ∷ []) files × AreLoaded s files t
 
 -- a folder is open
 abbrev pub is_open : List ℕ → Server → Bool
@@ -107,16 +120,42 @@ abbrev pub IsFolderGiven : List ℕ → Server → Server → Type 0
 IsFolderGiven folder s t =
     (u : Server) × AreKnownGiven folder s u × (((is_open folder u ≡ false) × (t ≡ u)) ⊎ AreListedGiven folder u t)
 
+-- the settings that count for a folder are given
+abbrev pub IsConfigured : List ℕ → Server → Server → Type 0
+IsConfigured folder s t = (found : FoundSettings) × IsConfiguredBy folder found s t
+
+-- some files are given
+abbrev pub AreSomeGiven : Server → Server → Type 0
+AreSomeGiven s t = (files : List (List ℕ)) × AreLoaded s files t
+
+-- the templates of the libraries of a folder are given, by its settings
+abbrev pub libraries_by : Option SettingsVal → List (List ℕ)
+libraries_by None = []
+libraries_by (Some settings) = settings.libraries
+
+abbrev pub libraries_in : Server → List ℕ → List (List ℕ)
+libraries_in s path = libraries_by (settings_for s.settings (map string_bytes s.folders.items) path)
+
+abbrev pub AreLibrariesGiven : List ℕ → Server → Server → Type 0
+AreLibrariesGiven folder s t =
+    (files : List (List ℕ)) × AreListed (extensions_in s folder) (libraries_in s folder) files × AreLoaded s files t
+
+-- .. then what is in a folder, those that were known and are in no folder and no library any more, and its libraries
+abbrev pub IsOpenGiven : List ℕ → Server → Server → Type 0
+IsOpenGiven folder s t =
+    (u v w : Server) × IsConfigured folder s u × IsFolderGiven folder u v × AreSomeGiven v w × AreLibrariesGiven folder w t
+
 -- a file that was not known may be no template, and is passed over then
 abbrev pub IsPassedBy : List ℕ → Server → Server → Type 0
 IsPassedBy path s t = (is_known s.known path ≡ false) × (t ≡ s)
 
--- what is asked for is given: the file of a path, or a folder; where it is not known what is under a path, either of them, or
--- what was known below it
+-- what is asked for is given: the file of a path, or a folder with its settings; where it is not known what is under a path,
+-- a file or a folder, or what was known below it; by a file of settings the folders are asked for
 abbrev pub AreGiven : NeededVal → Server → Server → Type 0
 AreGiven (NeedsFile path) s t = IsLoaded path s t
-AreGiven (NeedsFolder path) s t = IsFolderGiven path s t
-AreGiven (NeedsChanged path) s t = IsPassedBy path s t ⊎ (IsLoaded path s t ⊎ (AreKnownGiven path s t ⊎ IsFolderGiven path s t))
+AreGiven (NeedsFolder path) s t = IsOpenGiven path s t
+AreGiven (NeedsChanged path) s t =
+    IsPassedBy path s t ⊎ (IsLoaded path s t ⊎ (AreKnownGiven path s t ⊎ (IsFolderGiven path s t ⊎ AreAsked s t)))
 
 -- .. in part, if an allocation failed: the first ones of some files, and perhaps none of them
 abbrev pub AreLoadedInPart : List (List ℕ) → Server → Server → Type 0
@@ -129,16 +168,37 @@ AreKnownGivenInPart folder s t = AreLoadedInPart (filter (is_inside folder) (kno
 
 abbrev pub AreListedGivenInPart : List ℕ → Server → Server → Type 0
 AreListedGivenInPart folder s t =
-    (t ≡ s) ⊎ ((files : List (List ℕ)) × AreOf extensions folder files × AreLoadedInPart files s t)
+    (t ≡ s) ⊎ ((files : List (List ℕ)) × AreListed (extensions_in s folder) (folder ∷ []) files × AreLoadedInPart files s t)
 
 abbrev pub IsFolderGivenInPart : List ℕ → Server → Server → Type 0
 IsFolderGivenInPart folder s t =
     AreKnownGivenInPart folder s t ⊎ ((u : Server) × AreKnownGiven folder s u × AreListedGivenInPart folder u t)
 
+abbrev pub AreSomeGivenInPart : Server → Server → Type 0
+AreSomeGivenInPart s t = (files : List (List ℕ)) × AreLoadedInPart files s t
+
+abbrev pub AreLibrariesGivenInPart : List ℕ → Server → Server → Type 0
+AreLibrariesGivenInPart folder s t =
+    (t ≡ s) ⊎ ((files : List (List ℕ)) × AreListed (extensions_in s folder) (libraries_in s folder) files × AreLoadedInPart files s t)
+
+-- the settings, or what comes after them
+abbrev pub AreFilesGivenInPart : List ℕ → Server → Server → Type 0
+AreFilesGivenInPart folder s t =
+    IsFolderGivenInPart folder s t
+    ⊎ ((u : Server) × IsFolderGiven folder s u
+    × (AreSomeGivenInPart u t ⊎ ((v : Server) × AreSomeGiven u v × AreLibrariesGivenInPart folder v t)))
+
+abbrev pub IsOpenGivenInPart : List ℕ → Server → Server → Type 0
+IsOpenGivenInPart folder s t = IsUnconfigured s t ⊎ ((u : Server) × IsConfigured folder s u × AreFilesGivenInPart folder u t)
+
+pub record AreAskedInPart (s t : Server) : Type 0 where
+  pub same : t ≡ record s { needed = t.needed }
+  pub grows : Grows (needed_of s) (needed_of t)
+
 abbrev pub AreGivenInPart : NeededVal → Server → Server → Type 0
 AreGivenInPart (NeedsFile path) s t = IsUnloaded path s t
-AreGivenInPart (NeedsFolder path) s t = IsFolderGivenInPart path s t
-AreGivenInPart (NeedsChanged path) s t = IsUnloaded path s t ⊎ IsFolderGivenInPart path s t
+AreGivenInPart (NeedsFolder path) s t = IsOpenGivenInPart path s t
+AreGivenInPart (NeedsChanged path) s t = IsUnloaded path s t ⊎ (IsFolderGivenInPart path s t ⊎ AreAskedInPart s t)
 
 -- .. so it is asked for again, unless an allocation fails for that too
 pub record IsGivenInPart (needed : NeededVal) (s t : Server) : Type 0 where

@@ -1,17 +1,19 @@
 -- What a file of settings says.
 use denote.Ref.{Bor}
-use Rattle.std.specs.Prelude.{ℕ, List, [], ◌++◌, Bool, true, false, Option, codes, filter, map, option_map, string_bytes, unwrap_or, Vec}
+use Rattle.std.specs.Prelude.{◌≡◌, ℕ, Bool, true, false, List, [], ◌++◌, Option, None, Some, codes, filter, map, option_map, string_bytes, unwrap_or, Vec}
 use Rattle.std.specs.Fmt.{decimal}
 use Rattle.std.specs.declared.alloc.Global.{Global}
 use Rattle.tera_files.specs.Names.{texts}
 use Rattle.settings_files.specs.declared.unfit.WrongFile.{WrongFile}
+use Rattle.tera_check.specs.Registered.{AreListed, RegisteredVal}
 use Rattle.tera_check.specs.declared.finding.Severity.{Severity}
 use Rattle.tera_check.specs.declared.finding.Severity.TheVariants as severities
+use Rattle.tera_settings.specs.declared.settings.Known.{Known}
 use Rattle.tera_settings.specs.declared.settings.Level.{Level}
 use Rattle.tera_settings.specs.declared.settings.Level.TheVariants as levels
 use Rattle.tera_settings.specs.declared.settings.RuleLevel.{RuleLevel}
 use Rattle.tera_settings.specs.Values.{text_view, texts_view}
-use Rattle.tera_program.specs.Jobs.{lists_view}
+use Rattle.tera_program.specs.Jobs.{lists_view, set_view, sets_view}
 use Rattle.tera_program.specs.declared.job.Defaults.{Defaults}
 use Rattle.tera_program.specs.declared.settings.Site.{Site}
 use Rattle.tera_program.specs.declared.settings.Words.{Words}
@@ -24,7 +26,16 @@ pub record SiteVal : Type 0 where
   pub exclude : Option (List (List ℕ))
   pub library : Option (List (List ℕ))
   pub markers : Option (List ℕ)
-  pub off : Option (List (List ℕ))
+  pub set : List (List ℕ × Option Severity)
+
+-- what a rule is set to: none if it is off
+abbrev pub severity_at : Level → Option Severity
+severity_at levels.Off = None
+severity_at levels.Warning = Some severities.Warning
+severity_at levels.Error = Some severities.Error
+
+abbrev pub set_of : RuleLevel → List ℕ × Option Severity
+set_of rule = (string_bytes rule.rule, severity_at rule.level)
 
 abbrev pub site_val : Site → SiteVal
 site_val s = record {
@@ -33,7 +44,7 @@ site_val s = record {
   exclude = texts_view s.exclude;
   library = texts_view s.library;
   markers = text_view s.markers;
-  off = texts_view s.off;
+  set = map set_of s.rules.items;
 }
 
 abbrev pub words_view : Option (Vec (Bor (List ℕ)) Global) → Option (List (List ℕ))
@@ -46,7 +57,7 @@ words_val w = record {
   exclude = words_view w.exclude;
   library = words_view w.library;
   markers = option_map (λ t. t.now) w.markers;
-  off = words_view w.off;
+  set = map set_view w.set.items;
 }
 
 abbrev pub defaults_val : Defaults → SiteVal
@@ -56,22 +67,15 @@ defaults_val d = record {
   exclude = lists_view d.exclude;
   library = lists_view d.library;
   markers = option_map (λ t. t.now) d.markers;
-  off = lists_view d.off;
+  set = sets_view d.set;
 }
 
--- some texts; none if they are not given
-abbrev pub or_none : Option (List (List ℕ)) → List (List ℕ)
-or_none given = unwrap_or given []
+-- what the lists of the names that a program registers say, if there is one
+abbrev pub AreRegistered : Known → Option RegisteredVal → Type 0
+AreRegistered known None = (known.filters ≡ None) × (known.tests ≡ None) × (known.functions ≡ None)
+AreRegistered known (Some r) = AreListed (texts_view known.filters) (texts_view known.tests) (texts_view known.functions) r
 
--- ---- rules
-
--- Findings can be off, or as grave as they are.
-abbrev pub can_be : Level → Severity → Bool
-can_be levels.Off severity = true
-can_be levels.Warning severities.Warning = true
-can_be levels.Error severities.Error = true
-can_be _ _ = false
-
+-- the names of the rules that are off
 abbrev pub is_off_level : Level → Bool
 is_off_level levels.Off = true
 is_off_level _ = false
@@ -79,9 +83,12 @@ is_off_level _ = false
 abbrev pub is_off : RuleLevel → Bool
 is_off rule = is_off_level rule.level
 
--- the names of the rules that are off
 abbrev pub off_rules : List RuleLevel → List (List ℕ)
 off_rules rules = map (λ rule. string_bytes rule.rule) (filter is_off rules)
+
+-- some texts; none if they are not given
+abbrev pub or_none : Option (List (List ℕ)) → List (List ℕ)
+or_none given = unwrap_or given []
 
 -- where something is wrong in a file of settings
 abbrev pub place_text : WrongFile → List ℕ

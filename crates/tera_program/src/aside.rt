@@ -52,8 +52,8 @@ pub(crate) fn is_read<F: Files + AllocGlobal>(
     Ok(is_in_any(folders, path) && !is_left_out(files, folders, inner.as_str()))
 }
 
-// Whether this folder is one of those that are open.
-fn is_open(folders: &[String], path: &str) -> bool
+/// Whether this folder is one of those that are open.
+pub(crate) fn is_open(folders: &[String], path: &str) -> bool
     ensures { result ≡ list_any (λ f. bytes_eq f path.now) (map string_bytes folders.now) }
 {
     folders.iter().any(|folder| folder.as_str() == path)

@@ -4,13 +4,18 @@ ghost use Rattle.std.specs.Prelude.{◌≡◌, ◌<◌, ◌^◌, ◌++◌, ◌�
 ghost use Rattle.std.specs.Fmt.{decimal};
 ghost use Rattle.std.specs.Io.KnownBytes.{Keeps};
 ghost use Rattle.tera_lexer.specs.grammar.Marks.{IsValid, marks_of};
+ghost use Rattle.tera_files.specs.Names.{texts};
 ghost use Rattle.tera_program.specs.Counting.{checked_line};
+ghost use Rattle.tera_program.specs.Jobs.{lists_view};
 ghost use Rattle.tera_program.specs.Sources.{nothing, unreadable_view, with_sources};
+ghost use Rattle.tera_check.specs.Levels.{level_of};
+ghost use Rattle.tera_check.specs.Registered.{registered_if_any};
 ghost use Rattle.tera_program.specs.Report.{IsChecked, IsReported, counts_of, ended_of};
-ghost use Rattle.tera_program.specs.Rules.{is_reported};
+ghost use Rattle.tera_program.specs.Settings.{or_none};
 
 use crate::colours::{Terminals, style};
-use crate::counting::{Checked, checked_line};
+use crate::counting::{Checked, checked_line, fixed_line};
+use crate::fixing::fix_all;
 use crate::job::{Check, Form};
 use crate::markers::{other_markers_of, print_unfit};
 use crate::output::{print_error, print_stopped, put_error};
@@ -22,6 +27,7 @@ use std::alloc::{AllocError, Global};
 use std::io::Write;
 use std::rt::{Env, Files};
 use std::{fs, io};
+use tera_check::Registered;
 use terminal_text::Style;
 
 /// Checks the files, beside those of the library.
@@ -31,17 +37,14 @@ pub(crate) fn run<R: Files + Env + Input + Print + Eprint + AllocGlobal + Clone 
     rt: &R,
     terminals: Terminals,
     job: &Check<'_, '_>,
+    registered: Option<&Registered<'_>>,
 ) -> Ended {
     let style = style(rt, job.common.colours, terminals.out);
     let Some(files) = job.files else {
         return Ended::failed();
     };
-    if has_input(job.library) {
-        print_error(rt, "tera", "--library: expected a file or a folder");
-        return Ended::failed();
-    }
-    if !is_folder_if_any(rt, job.root) {
-        print_error(rt, "tera", "--root: expected a folder");
+    if let Some(why) = why_unfit(rt, job, files) {
+        print_error(rt, "tera", why);
         return Ended::failed();
     }
     let Some(faults) = number_from_1(job.max_faults) else {
@@ -58,18 +61,58 @@ pub(crate) fn run<R: Files + Env + Input + Print + Eprint + AllocGlobal + Clone 
     let reading = Reading {
         markers,
         faults,
-        // Excerpts alone want the sources.
-        keeps_sources: matches!(job.form, Form::Full),
+        // Excerpts and fixes alone want the sources.
+        keeps_sources: job.fix || matches!(job.form, Form::Full),
     };
     match read_site(rt, job, files, &reading) {
-        Ok(all) => {
-            let (ended, is_said) = run_on(rt, style, job, &all, &mut io::writer(rt));
+        Ok(mut all) => {
+            let is_fixed = !job.fix || fix(rt, job, &reading, &mut all);
+            let (ended, is_said) = run_on(rt, style, job, registered, &all, &mut io::writer(rt));
             all.forget();
-            ended.unless_said(is_said)
+            ended.unless_said(is_said && is_fixed)
         }
         Err(_) => {
             print_error(rt, "tera", "out of memory");
             Ended::failed()
+        }
+    }
+}
+
+// Why this cannot be checked, if an option says what cannot be.
+fn why_unfit(rt: &impl Files, job: &Check<'_, '_>, files: &[&str]) -> Option<&'static str> {
+    if has_input(job.library) {
+        return Some("--library: expected a file or a folder");
+    }
+    if !is_folder_if_any(rt, job.root) {
+        return Some("--root: expected a folder");
+    }
+    if job.fix && files.contains(&"-") {
+        return Some("--fix: standard input cannot be changed");
+    }
+    None
+}
+
+// Writes what is suggested to the files, and says on standard error how much that was. The answer is whether it went well.
+fn fix<R: Files + Eprint + AllocGlobal>(
+    rt: &R,
+    job: &Check<'_, '_>,
+    reading: &Reading,
+    all: &mut Templates,
+) -> bool
+    requires { IfSome reading.now.markers (λ m. IsValid (marks_of m)) }
+{
+    match fix_all(rt, job, reading, all) {
+        Ok(fixed) if is_counted(job) => {
+            let is_said = match fixed_line(rt.alloc(), fixed.findings, fixed.files) {
+                Ok(line) => put_error(rt, line.as_str()),
+                Err(_) => false,
+            };
+            is_said && fixed.failed == 0
+        }
+        Ok(fixed) => fixed.failed == 0,
+        Err(_) => {
+            print_error(rt, "tera", "out of memory");
+            false
         }
     }
 }
@@ -108,7 +151,9 @@ fn with_root<'a>(
     alloc: Global,
     library: Option<&[&'a str]>,
     root: &'a str,
-) -> Result<Vec<&'a str>, AllocError> {
+) -> Result<Vec<&'a str>, AllocError>
+    ensures { IfOk result (λ paths. texts paths.items ≡ root.now ∷ or_none (lists_view library.entry)) }
+{
     let mut paths = Vec::new(alloc);
     paths.push(root)?;
     if let Some(library) = library {
@@ -138,13 +183,15 @@ fn run_on<R: Eprint + AllocGlobal, W: Write>(
     rt: &R,
     style: Style,
     job: &Check<'_, '_>,
+    registered: Option<&Registered<'_>>,
     all: &Templates,
     writer: &mut W,
 ) -> (Ended, bool)
-    ensures { IsChecked job.now.form style (is_reported job.now.rules) job.now.error_on_warnings
-        all.now (W.contents writer.old) (W.contents writer.new) result.0 }
+    ensures { IsChecked job.now.form style (registered_if_any registered.entry)
+        (level_of job.now.rules) job.now.error_on_warnings all.now
+        (W.contents writer.old) (W.contents writer.new) result.0 }
 {
-    let report = write_all_findings(rt.alloc(), style, job, all, writer);
+    let report = write_all_findings(rt.alloc(), style, job, registered, all, writer);
     let is_said = match &report {
         Ok(report) => print_end(rt, job, all, report),
         Err(_) => {
@@ -162,13 +209,14 @@ fn write_all_findings<W: Write>(
     alloc: Global,
     style: Style,
     job: &Check<'_, '_>,
+    registered: Option<&Registered<'_>>,
     all: &Templates,
     writer: &mut W,
 ) -> Result<Report, AllocError>
     ensures report { IfOk result (IsReported job.now.form style
         (with_sources nothing all.now.sources.items) (map unreadable_view all.now.unread.items)
-        all.now.templates.items all.now.names all.now.checked (is_reported job.now.rules)
-        (W.contents writer.old) (W.contents writer.new)) }
+        all.now.templates.items all.now.names (registered_if_any registered.entry) all.now.checked
+        (level_of job.now.rules) (W.contents writer.old) (W.contents writer.new)) }
     ensures memory { OnErr result (Keeps (W.contents writer.old) (W.contents writer.new)) }
 {
     let mut sources = all.texts(alloc)?;
@@ -181,6 +229,7 @@ fn write_all_findings<W: Write>(
         &all.unread,
         &all.templates,
         &all.names,
+        registered,
         all.checked,
         job.rules,
     )

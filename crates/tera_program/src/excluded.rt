@@ -1,6 +1,6 @@
 //! Files and folders that the settings leave out.
 
-ghost use Rattle.std.specs.Prelude.{◌↔◌, Any, IsTrue};
+ghost use Rattle.std.specs.Prelude.{◌≡◌, ◌⊎◌, ◌++◌, ◌∷◌, [], ◌↔◌, All, Any, Contains, IfOk, IsTrue, OnOk, map, string_bytes};
 ghost use Rattle.std.specs.Path.{PathStartsWith};
 ghost use Rattle.tera_files.specs.Names.{texts};
 
@@ -16,26 +16,57 @@ pub(crate) fn leave_out<R: Files + AllocGlobal>(
     rt: &R,
     exclude: &[&str],
     found: Found,
-) -> Result<Found, AllocError> {
+) -> Result<Found, AllocError>
+    ensures { IfOk result (λ kept.
+        All (Contains (map string_bytes found.files.items)) (map string_bytes kept.files.items)) }
+{
     let Found { files, unlisted } = found;
-    let mut kept = Found {
-        files: Vec::new(rt.alloc()),
-        unlisted: Vec::new(rt.alloc()),
-    };
-    for file in files {
-        if !is_excluded(rt, exclude, file.as_str())? {
-            kept.files.push(file)?;
-        }
-    }
+    let files = kept_files(rt, exclude, files)?;
+    let mut kept = Vec::new(rt.alloc());
     for one in unlisted {
         if !is_excluded(rt, exclude, one.folder.as_str())? {
-            kept.unlisted.push(one)?;
+            kept.push(one)?;
         }
+    }
+    Ok(Found {
+        files,
+        unlisted: kept,
+    })
+}
+
+fn kept_files<R: Files + AllocGlobal>(
+    rt: &R,
+    exclude: &[&str],
+    files: Vec<String>,
+) -> Result<Vec<String>, AllocError>
+    ensures { IfOk result (λ kept. All (Contains (map string_bytes files.items)) (map string_bytes kept.items)) }
+{
+    let mut kept = Vec::new(rt.alloc());
+    for file in files {
+        keep(rt, exclude, file, &mut kept)?;
     }
     Ok(kept)
 }
 
-fn is_excluded<R: Files + AllocGlobal>(
+// Adds the file, unless it is excluded.
+fn keep<R: Files + AllocGlobal>(
+    rt: &R,
+    exclude: &[&str],
+    file: String,
+    kept: &mut Vec<String>,
+) -> Result<(), AllocError>
+    ensures { OnOk result ((kept.new.items ≡ kept.old.items)
+        ⊎ (kept.new.items ≡ kept.old.items ++ file ∷ [])) }
+{
+    if is_excluded(rt, exclude, file.as_str())? {
+        return Ok(());
+    }
+    kept.push(file)?;
+    Ok(())
+}
+
+/// Whether the file or folder is at one of these paths, or below it.
+pub(crate) fn is_excluded<R: Files + AllocGlobal>(
     rt: &R,
     exclude: &[&str],
     path: &str,

@@ -5,7 +5,7 @@
 use tera_check::Kind;
 
 /// The names of the rules.
-pub(crate) static RULES: [&str; 15] = [
+pub(crate) static RULES: [&str; 20] = [
     "fault",
     "undefined-component",
     "missing-argument",
@@ -15,16 +15,21 @@ pub(crate) static RULES: [&str; 15] = [
     "unused-parameter",
     "defined-again",
     "repeated-key",
+    "repeated-condition",
+    "unused-ignore",
     "missing-template",
     "circular-extends",
     "circular-include",
     "undefined-block",
     "super-without-parent",
+    "unknown-filter",
+    "unknown-test",
+    "unknown-function",
     "unread",
 ];
 
 /// Those of which no findings may be asked for.
-pub(crate) static OPTIONAL_RULES: [&str; 13] = [
+pub(crate) static OPTIONAL_RULES: [&str; 18] = [
     "undefined-component",
     "missing-argument",
     "unknown-argument",
@@ -33,11 +38,16 @@ pub(crate) static OPTIONAL_RULES: [&str; 13] = [
     "unused-parameter",
     "defined-again",
     "repeated-key",
+    "repeated-condition",
+    "unused-ignore",
     "missing-template",
     "circular-extends",
     "circular-include",
     "undefined-block",
     "super-without-parent",
+    "unknown-filter",
+    "unknown-test",
+    "unknown-function",
 ];
 
 /// What the page has on findings of the kind.
@@ -52,11 +62,16 @@ pub(crate) fn explanation(kind: Kind) -> &'static str {
         Kind::UnusedParameter => UNUSED_PARAMETER,
         Kind::DefinedAgain => DEFINED_AGAIN,
         Kind::RepeatedKey => REPEATED_KEY,
+        Kind::RepeatedCondition => REPEATED_CONDITION,
+        Kind::UnusedIgnore => UNUSED_IGNORE,
         Kind::MissingTemplate => MISSING_TEMPLATE,
         Kind::CircularExtends => CIRCULAR_EXTENDS,
         Kind::CircularInclude => CIRCULAR_INCLUDE,
         Kind::UndefinedBlock => UNDEFINED_BLOCK,
         Kind::SuperWithoutParent => SUPER_WITHOUT_PARENT,
+        Kind::UnknownFilter => UNKNOWN_FILTER,
+        Kind::UnknownTest => UNKNOWN_TEST,
+        Kind::UnknownFunction => UNKNOWN_FUNCTION,
     }
 }
 
@@ -167,6 +182,29 @@ Remove the value that is not meant:
     {{ table(style={"color": color, "width": 100}) }}
 "##;
 
+const REPEATED_CONDITION: &str = r##"
+A condition of an `if` or an `elif` is the same as one before it in the same chain. So its body is never shown, unless a
+function in it gives another value at each call. A note says where the other one is.
+
+    {% if user.admin %}Admin{% elif user.admin %}Editor{% endif %}
+
+Correct the condition that is not meant:
+
+    {% if user.admin %}Admin{% elif user.editor %}Editor{% endif %}
+"##;
+
+const UNUSED_IGNORE: &str = r##"
+A comment silences findings of a rule, and there are none on its line, or no rule has this name. If the comment is alone
+on its line, it is about the next line too.
+
+    {# tera-ignore: unused-parameter #}
+    {% component box(title: string) %}{{ title }}{% endcomponent %}
+
+Remove the comment, or the rule from it:
+
+    {% component box(title: string) %}{{ title }}{% endcomponent %}
+"##;
+
 const MISSING_TEMPLATE: &str = r##"
 A template extends or includes a template that is not there, so Tera refuses to load it. The name is a path below the
 folder of the templates.
@@ -218,4 +256,37 @@ const SUPER_WITHOUT_PARENT: &str = r##"
 Remove the call, or let the template extend one that has the block:
 
     {% extends "base.html" %}{% block content %}{{ super() }}News{% endblock %}
+"##;
+
+const UNKNOWN_FILTER: &str = r##"
+The list `filters` of `tera.toml` does not have the name of a filter. Tera refuses a template with a filter that does
+not exist. Without the list nothing is reported.
+
+    {{ text | markdwon }}
+
+Correct the name, or add it to the list, if the program registers the filter:
+
+    {{ text | markdown }}
+"##;
+
+const UNKNOWN_TEST: &str = r##"
+The list `tests` of `tera.toml` does not have the name of a test. Tera refuses a template with a test that does not
+exist. Without the list nothing is reported.
+
+    {% if user is define %}{{ user.name }}{% endif %}
+
+Correct the name, or add it to the list, if the program registers the test:
+
+    {% if user is defined %}{{ user.name }}{% endif %}
+"##;
+
+const UNKNOWN_FUNCTION: &str = r##"
+The list `functions` of `tera.toml` does not have the name of a function that is called. Tera refuses a template with a
+call of a function that does not exist. Without the list nothing is reported.
+
+    {% for page in rnge(end=3) %}{{ page }}{% endfor %}
+
+Correct the name, or add it to the list, if the program registers the function:
+
+    {% for page in range(end=3) %}{{ page }}{% endfor %}
 "##;

@@ -22,7 +22,7 @@ fn is_wrong(findings: &Vec<Finding>) -> bool
     ensures { result ≡ list_any is_of_error findings.now.items }
 {
     for finding in findings {
-        if is_error(finding.kind.severity()) {
+        if is_error(finding.severity) {
             return true;
         }
     }

@@ -1,13 +1,13 @@
 //! What the words of the command line ask.
 
-ghost use Rattle.std.specs.Prelude.{◌≡◌, option_map, option_and_then, unwrap_or, codes};
+ghost use Rattle.std.specs.Prelude.{◌≡◌, [], option_map, option_and_then, unwrap_or, codes};
 ghost use Rattle.clap.specs.Words.{found_of, rows_of, first_of, all_of, subcommand_rows_of};
 ghost use Rattle.tera_files.specs.Names.{texts};
 ghost use Rattle.tera_program.specs.Jobs.{are_unread, check_of, check_view, colours_of, common_of, common_view, common_with, components_of, components_view, form_of, format_of, format_view, is_set, is_text, is_unread, job_of, job_view, mode_of, names_unread_input, tree_of, tree_view, with_defaults};
 
 use crate::colours::Colours;
-use crate::rules::Rules;
 use clap::ArgMatches;
+use tera_check::{Levels, RuleLevel};
 
 /// What is to be done.
 #[derive(Clone, Copy, Debug)]
@@ -46,8 +46,8 @@ pub(crate) struct Defaults<'b, 'a> {
     pub(crate) exclude: Option<&'b [&'a str]>,
     pub(crate) library: Option<&'b [&'a str]>,
     pub(crate) markers: Option<&'a str>,
-    /// The rules that are off.
-    pub(crate) off: Option<&'b [&'a str]>,
+    /// What rules are set to.
+    pub(crate) set: &'b [RuleLevel<'a>],
 }
 
 #[derive(Clone, Copy, Debug)]
@@ -59,9 +59,11 @@ pub(crate) struct Check<'b, 'a> {
     pub(crate) root: Option<&'a str>,
     /// How many faults of a file are reported at the most: a word, which need be no number.
     pub(crate) max_faults: &'a str,
-    pub(crate) rules: Rules<'b, 'a>,
+    pub(crate) rules: Levels<'b, 'a>,
     /// Whether the status is that of an error where there are only warnings.
     pub(crate) error_on_warnings: bool,
+    /// Whether what is suggested is written to the files.
+    pub(crate) fix: bool,
     /// Six markers in one word, where they are not the usual ones.
     pub(crate) markers: Option<&'a str>,
     pub(crate) files: Option<&'b [&'a str]>,
@@ -180,8 +182,8 @@ impl<'b, 'a> Check<'b, 'a> {
         Check {
             library: self.library.or(defaults.library),
             root: self.root.or(defaults.root),
-            rules: Rules {
-                off: defaults.off,
+            rules: Levels {
+                set: defaults.set,
                 ..self.rules
             },
             markers: self.markers.or(defaults.markers),
@@ -228,16 +230,24 @@ fn check_in<'b, 'a>(found: &'b ArgMatches<'a>) -> Check<'b, 'a>
         library: texts_in(found, "library"),
         root: text(found, "root"),
         max_faults: text_or(found, "max-faults", ""),
-        rules: Rules {
+        rules: Levels {
             select: texts_in(found, "select"),
             ignore: texts_in(found, "ignore"),
-            off: None,
+            set: none_set(),
         },
         error_on_warnings: is_set(found, "error-on-warnings"),
+        fix: is_set(found, "fix"),
         markers: text(found, "markers"),
         files: texts_in(found, "files"),
         common: common_in(found),
     }
+}
+
+// Options set no rule.
+fn none_set<'b, 'a>() -> &'b [RuleLevel<'a>]
+    ensures { result.now ≡ [] }
+{
+    &[]
 }
 
 fn tree_in<'b, 'a>(found: &'b ArgMatches<'a>) -> Tree<'b, 'a>

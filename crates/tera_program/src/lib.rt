@@ -6,8 +6,9 @@
 //!
 //! In the order of reading: `options`, the words; `job`, what they ask; `status`, how it ends; `colours` and `output`;
 //! `settings`, what a file of settings says; `excluded` and `reading`, the templates; `site`, their names in a site;
-//! `rules`, `found`, `forms` and `reporting`, what is found in them, counted and as text; `counting`, the last line;
-//! `plan` and `markers`, what a file becomes; `sending`, the messages to an editor; then a module for each subcommand.
+//! `found`, `forms` and `reporting`, what is found in them, counted and as text; `counting`, the last line; `fixing`,
+//! what is put right in files; `plan` and `markers`, what a file becomes; `sending`, the messages to an editor; then a
+//! module for each subcommand.
 #![tactic(auto)]
 
 mod aside;
@@ -18,6 +19,7 @@ mod counting;
 mod excluded;
 mod explain;
 mod explanations;
+mod fixing;
 mod format;
 mod forms;
 mod found;
@@ -28,7 +30,6 @@ mod output;
 mod plan;
 mod reading;
 mod reporting;
-mod rules;
 mod sending;
 mod server;
 mod settings;
@@ -48,6 +49,7 @@ pub use colours::Terminals;
 pub use plan::{Plan, plan_of};
 use std::rt::{Env, Files};
 use std::{env, io};
+use tera_check::Registered;
 
 /// Does what the arguments of the process ask, and answers the status that it ends with: 0 where nothing but warnings
 /// was found and all was done, 1 where an error was found, or under `--check` or `--diff` a file that would change, and
@@ -162,16 +164,22 @@ fn run_with<'w, 's, R: Files + Env + Input + Print + Eprint + AllocGlobal + Clon
     job: Job<'w, 's>,
     words: &'w Words<'s>,
 ) -> Ended {
-    run_job(rt, terminals, job.with(words.defaults()))
+    run_job(
+        rt,
+        terminals,
+        job.with(words.defaults()),
+        words.registered(),
+    )
 }
 
 fn run_job<R: Files + Env + Input + Print + Eprint + AllocGlobal + Clone + Drop>(
     rt: &R,
     terminals: Terminals,
     job: Job<'_, '_>,
+    registered: Option<&Registered<'_>>,
 ) -> Ended {
     match job {
-        Job::Check(job) => check::run(rt, terminals, &job),
+        Job::Check(job) => check::run(rt, terminals, &job, registered),
         Job::Tree(job) => tree::run(rt, terminals, &job),
         Job::Components(job) => components::run(rt, terminals, &job),
         Job::Format(job) => format::run(rt, terminals, &job),

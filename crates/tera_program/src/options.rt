@@ -38,6 +38,9 @@ All syntax errors of a file are reported, and what else is found in the rest of 
 a syntax error: no component is undefined while the tag of a definition has one. Between other markers (--markers) only
 the first syntax error of a file is reported, and nothing else is found in it.
 
+With --fix the files are changed where a finding has one safe correction, and what is left is reported. A file is left as
+it is if its new text would have a syntax error, or a finding that it did not have before.
+
 With --root the names that templates extend and include are checked too: a name is a path below the root.
 
 This parser does not read floating-point numbers. Tera does: a tag that has one gets the error `Float literals are not
@@ -151,6 +154,11 @@ fn check<'a>(alloc: Global) -> Result<Command<'a>, AllocError> {
             alloc,
             "error-on-warnings",
             "End with status 1 if there are only warnings, too",
+        ))?
+        .arg(flag(
+            alloc,
+            "fix",
+            "Correct misspelled names of components and arguments, and remove repeated arguments",
         ))?
         .arg(markers(alloc))?
         .arg(several(

@@ -129,10 +129,7 @@ pub(crate) fn print_unwritten<R: Eprint + AllocGlobal>(rt: &R, file: &str, why: 
 
 fn why_unwritten(alloc: Global, why: Unwritten) -> Result<String, AllocError> {
     match why {
-        Unwritten::Changed => String::from_str(
-            alloc,
-            "changed while it was laid out, and left as it is",
-        ),
+        Unwritten::Changed => String::from_str(alloc, "changed meanwhile, and left as it is"),
         Unwritten::Failed(error) => format!(in alloc; "writing failed: {error}"),
         Unwritten::Incomplete(error) => {
             format!(in alloc; "writing failed, and the file is incomplete: {error}")

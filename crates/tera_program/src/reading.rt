@@ -135,8 +135,8 @@ fn extensions_of<'a>(alloc: Global, common: Common<'_, 'a>) -> Result<Vec<&'a st
     Ok(extensions)
 }
 
-// Both `txt` and `.txt` name an extension.
-fn without_point(extension: &str) -> &str {
+/// Both `txt` and `.txt` name an extension.
+pub(crate) fn without_point(extension: &str) -> &str {
     extension.strip_prefix('.').unwrap_or(extension)
 }
 
@@ -305,8 +305,8 @@ fn add_source(
     Ok(())
 }
 
-// The template of the source of a file.
-fn template_of(
+/// The template of the source of a file.
+pub(crate) fn template_of(
     alloc: Global,
     file: &str,
     source: &str,

@@ -1,21 +1,21 @@
 //! What is found in templates, written.
 
-ghost use Rattle.std.specs.Prelude.{IfOk, OnErr, map};
+ghost use Rattle.std.specs.Prelude.{IfOk, OnErr, OnOk, map};
 ghost use Rattle.std.specs.Io.KnownBytes.{Keeps};
 ghost use Rattle.terminal_text.specs.Files.{source_of};
 ghost use Rattle.tera_program.specs.Sources.{unreadable_view};
-ghost use Rattle.tera_program.specs.Report.{AreAllFound, IsReported};
-ghost use Rattle.tera_program.specs.Rules.{is_reported};
+ghost use Rattle.tera_check.specs.Levels.{level_of};
+ghost use Rattle.tera_check.specs.Registered.{registered_if_any};
+ghost use Rattle.tera_program.specs.Report.{AreAllFound, AreWithNames, AreWithUnknownIf, IsReported};
 
 use crate::forms::text_of;
 use crate::found::{count_of, faulty_of, has_error};
 use crate::job::Form;
 use crate::reading::Unreadable;
-use crate::rules::{Rules, leave_reported};
 use std::alloc::{AllocError, Global};
 use std::io;
 use std::io::Write;
-use tera_check::{Found, Template, all_found};
+use tera_check::{Found, Levels, Registered, Template, add_unknown, all_found, leave_reported};
 use tera_show::write_all;
 use tera_site::{SiteNames, add_names};
 use terminal_text::{Sources, Style};
@@ -44,16 +44,18 @@ pub(crate) fn write_findings<'t, W: Write>(
     unread: &Vec<Unreadable>,
     templates: &'t Vec<Template>,
     names: &'t Option<SiteNames>,
+    registered: Option<&Registered<'_>>,
     checked: usize,
-    rules: Rules<'_, '_>,
+    levels: Levels<'_, '_>,
 ) -> Result<Report, AllocError>
     ensures report { IfOk result (IsReported form style (source_of sources.old)
-        (map unreadable_view unread.now.items) templates.now.items names.now checked (is_reported rules.entry)
+        (map unreadable_view unread.now.items) templates.now.items names.now
+        (registered_if_any registered.entry) checked (level_of levels.entry)
         (W.contents writer.old) (W.contents writer.new)) }
     ensures memory { OnErr result (Keeps (W.contents writer.old) (W.contents writer.new)) }
 {
-    let mut all = found_in(alloc, templates, names, checked)?;
-    leave_reported(&mut all, rules);
+    let mut all = found_in(alloc, templates, names, registered, checked)?;
+    leave_reported(&mut all, levels);
     let text = text_of(
         alloc,
         form,
@@ -70,21 +72,52 @@ pub(crate) fn write_findings<'t, W: Write>(
     })
 }
 
-// What is found in each template: of itself and its components, and of names where they are known.
+// What is found in each template: of itself and its components, of names, and of what the program registers, where these
+// are known.
 fn found_in<'a>(
     alloc: Global,
     templates: &'a Vec<Template>,
     names: &'a Option<SiteNames>,
+    registered: Option<&Registered<'_>>,
     checked: usize,
 ) -> Result<Vec<Found<'a>>, AllocError>
-    ensures { IfOk result (λ all. AreAllFound templates.now.items names.now checked all.items) }
+    ensures { IfOk result (λ all. AreAllFound templates.now.items names.now
+        (registered_if_any registered.entry) checked all.items) }
 {
     let mut all = all_found(alloc, templates, checked)?;
+    add_if_named(alloc, names, templates, checked, &mut all)?;
+    add_if_registered(alloc, registered, templates, checked, &mut all)?;
+    Ok(all)
+}
+
+fn add_if_named<'a>(
+    alloc: Global,
+    names: &'a Option<SiteNames>,
+    templates: &'a Vec<Template>,
+    checked: usize,
+    all: &mut Vec<Found<'_>>,
+) -> Result<(), AllocError>
+    ensures { OnOk result (AreWithNames names.now templates.now.items checked
+        all.old.items all.new.items) }
+{
     match names {
-        Some(names) => {
-            add_names(alloc, names, templates, checked, &mut all)?;
-            Ok(all)
-        }
-        None => Ok(all),
+        Some(names) => add_names(alloc, names, templates, checked, all),
+        None => Ok(()),
+    }
+}
+
+fn add_if_registered(
+    alloc: Global,
+    registered: Option<&Registered<'_>>,
+    templates: &Vec<Template>,
+    checked: usize,
+    all: &mut Vec<Found<'_>>,
+) -> Result<(), AllocError>
+    ensures { OnOk result (AreWithUnknownIf (registered_if_any registered.entry)
+        templates.now.items checked all.old.items all.new.items) }
+{
+    match registered {
+        Some(registered) => add_unknown(alloc, registered, templates, checked, all),
+        None => Ok(()),
     }
 }

@@ -1,33 +1,39 @@
 //! `tera server`.
 
-ghost use Rattle.std.specs.Prelude.{◌≡◌, ◌<◌, ◌++◌, ℕ, List, [], length, false, Option, None, IfOk, OnOk, OnErr};
+ghost use Rattle.std.specs.Prelude.{◌≡◌, ◌<◌, ◌++◌, ℕ, List, [], length, false, map, string_bytes, Option, None, IfOk, OnOk, OnErr, unwrap_or};
 ghost use Rattle.std.specs.Io.KnownBytes.{Appends, Consumes, IsAtEnd};
 ghost use Rattle.std.specs.List.{flat_map};
+ghost use Rattle.std.specs.Option.{option_map};
 ghost use Rattle.json_rpc.specs.Outgoing.{Outgoing, nothing};
 ghost use Rattle.message_frames.specs.Shown.{Message, shown};
 ghost use Rattle.message_frames.specs.Representing.{Represents};
 ghost use Rattle.message_frames.specs.Writing.{frame as frame_text};
+ghost use Rattle.tera_files.specs.Names.{texts};
 ghost use Rattle.tera_files.specs.declared.reading.Unread.TheVariants.{NotUtf8};
 ghost use Rattle.tera_program.specs.Reasons.{not_utf8, IsUnread};
-ghost use Rattle.tera_program.specs.Serving.{Takes, SettlesSo, Rests, IsLoaded, IsUnloaded, AreKnownGiven, AreKnownGivenInPart, AreListedGiven, AreListedGivenInPart, IsFolderGiven, IsFolderGivenInPart, AreGiven, AreGivenInPart, IsGivenInPart, Gives, IsTalking, IsWaiting, IsServed};
+ghost use Rattle.tera_program.specs.Serving.{Takes, SettlesSo, Rests, IsLoaded, IsUnloaded, AreKnownGiven, AreKnownGivenInPart, AreLoaded, AreLoadedInPart, AreLibrariesGiven, AreLibrariesGivenInPart, AreListed, AreListedGiven, AreSomeGiven, AreSomeGivenInPart, AreListedGivenInPart, IsFolderGiven, IsFolderGivenInPart, IsOpenGiven, IsOpenGivenInPart, extensions, extensions_in, libraries_in, AreGiven, AreGivenInPart, IsGivenInPart, Gives, IsTalking, IsWaiting, IsServed};
 ghost use Rattle.tera_server.specs.States.{NeedsChanged, needed_view, needed_of, text_on};
 ghost use Rattle.tera_server.specs.KnownFiles.{is_known};
 ghost use Rattle.tera_server.specs.declared.server.OnDisk.{OnDisk};
 ghost use Rattle.tera_server.specs.declared.server.Server.{Server};
 
-use crate::aside::{is_in_any, is_left_out, is_read};
+use crate::aside::{is_in_any, is_left_out, is_open, is_read};
+use crate::excluded::{is_excluded, leave_out};
 use crate::options::EXTENSIONS;
 use crate::output::{print_error, why_unread};
 use crate::sending::send;
+use crate::settings::{found_for_folder, references};
 use crate::status::Ended;
 use json_rpc::Outbox;
 use message_frames::{Frame, Frames};
+use settings_files::NAME;
 use std::alloc::{AllocError, Global};
 use std::io::{Read, Write};
+use std::path::Path;
 use std::rt::Files;
 use std::{fs, io};
-use tera_files::{Selection, Unread, ends_in, files_of, read_source};
-use tera_server::{Ended as Finished, Needed, OnDisk, Server};
+use tera_files::{Found, Selection, Unread, ends_in, files_of, read_source};
+use tera_server::{Ended as Finished, FoundSettings, Needed, OnDisk, Server};
 
 // How the messages that came left the exchange.
 #[derive(Clone, Copy)]
@@ -331,13 +337,98 @@ fn give_needed<F: Files + Input + AllocGlobal + Clone + Drop>(
     ensures in_part { OnErr result (AreGivenInPart (needed_view needed.now) server.old server.new) }
 {
     match needed {
-        Needed::Folder(path) => give_folder(files, server, path.as_str()),
+        Needed::Folder(path) => give_with_settings(files, server, path.as_str()),
         Needed::File(path) => give_single(files, server, path.as_str()),
         Needed::Changed(path) => give_changed(files, server, path.as_str()),
     }
 }
 
-// What is under a path now: a folder, a file or nothing.
+// The settings that count for a folder, and then its files.
+fn give_with_settings<F: Files + Input + AllocGlobal + Clone + Drop>(
+    files: &F,
+    server: &mut Server,
+    folder: &str,
+) -> Result<(), AllocError>
+    ensures given { OnOk result (IsOpenGiven folder.now server.old server.new) }
+    ensures in_part { OnErr result (IsOpenGivenInPart folder.now server.old server.new) }
+{
+    let found = settings_of(files, server, folder)?;
+    server.configure(files.alloc(), folder, found)?;
+    give_folder(files, server, folder)?;
+    give_apart(files, server)?;
+    give_libraries(files, server, folder)
+}
+
+// A known file that is in no open folder and in no library has no text any more.
+fn give_apart<F: Files + Input + AllocGlobal>(
+    files: &F,
+    server: &mut Server,
+) -> Result<(), AllocError>
+    ensures given { OnOk result (AreSomeGiven server.old server.new) }
+    ensures in_part { OnErr result (AreSomeGivenInPart server.old server.new) }
+{
+    let apart = apart(files.alloc(), server)?;
+    for path in &apart {
+        give_nothing(files, server, path.as_str())?;
+    }
+    Ok(())
+}
+
+fn apart(alloc: Global, server: &Server) -> Result<Vec<String>, AllocError> {
+    let mut apart = Vec::new(alloc);
+    for path in server.known(alloc)? {
+        if !is_in_any(server.folders(), path.as_str()) && !server.is_in_library(path.as_str()) {
+            apart.push(path)?;
+        }
+    }
+    Ok(apart)
+}
+
+// The templates of the libraries of the folder.
+fn give_libraries<F: Files + Input + AllocGlobal + Clone + Drop>(
+    files: &F,
+    server: &mut Server,
+    folder: &str,
+) -> Result<(), AllocError>
+    ensures given { OnOk result (AreLibrariesGiven folder.now server.old server.new) }
+    ensures in_part { OnErr result (AreLibrariesGivenInPart folder.now server.old server.new) }
+{
+    let found = libraries(files, server, folder)?;
+    give_files(files, server, &found.files)
+}
+
+fn libraries<F: Files + AllocGlobal + Clone + Drop>(
+    files: &F,
+    server: &Server,
+    folder: &str,
+) -> Result<Found, AllocError>
+    ensures { IfOk result (λ found. AreListed (extensions_in server.now folder.now) (libraries_in server.now folder.now)
+        (map string_bytes found.files.items)) }
+{
+    match server.settings_for(folder) {
+        Some(settings) => {
+            let paths = references(files.alloc(), &settings.libraries)?;
+            listed(files, server, folder, paths.as_slice())
+        }
+        None => listed(files, server, folder, &[]),
+    }
+}
+
+// For a folder that is not open no settings count.
+fn settings_of<F: Files + Input + AllocGlobal>(
+    files: &F,
+    server: &Server,
+    folder: &str,
+) -> Result<FoundSettings, AllocError> {
+    if is_open(server.folders(), folder) {
+        found_for_folder(files, folder)
+    } else {
+        Ok(FoundSettings::Nothing)
+    }
+}
+
+// What is under a path now: a folder, a file or nothing. If it may be a file of settings, the folders that are open are
+// asked for again.
 fn give_changed<F: Files + Input + AllocGlobal + Clone + Drop>(
     files: &F,
     server: &mut Server,
@@ -346,6 +437,9 @@ fn give_changed<F: Files + Input + AllocGlobal + Clone + Drop>(
     ensures given { OnOk result (AreGiven (NeedsChanged path.now) server.old server.new) }
     ensures in_part { OnErr result (AreGivenInPart (NeedsChanged path.now) server.old server.new) }
 {
+    if Path::new(path).file_name() == Some(NAME) {
+        return server.ask_for_folders(files.alloc());
+    }
     match kind_of(files, path) {
         Kind::Folder => give_folder(files, server, path),
         Kind::File => give_template(files, server, path),
@@ -362,7 +456,7 @@ fn give_template<F: Files + Input + AllocGlobal>(
     ensures given { OnOk result (AreGiven (NeedsChanged path.now) server.old server.new) }
     ensures in_part { OnErr result (AreGivenInPart (NeedsChanged path.now) server.old server.new) }
 {
-    if is_needed(server, path) {
+    if is_needed(files.alloc(), server, path)? {
         give_single(files, server, path)
     } else {
         Ok(())
@@ -402,10 +496,46 @@ fn kind_of(files: &impl Files, path: &str) -> Kind {
     }
 }
 
-fn is_needed(server: &Server, path: &str) -> bool
-    ensures { result ≡ false → is_known server.now.known path.now ≡ false }
+fn is_needed(alloc: Global, server: &Server, path: &str) -> Result<bool, AllocError>
+    ensures { IfOk result (λ needed. needed ≡ false → is_known server.now.known path.now ≡ false) }
 {
-    ends_in(path, EXTENSIONS.as_slice()) || server.is_known(path)
+    if server.is_known(path) {
+        return Ok(true);
+    }
+    is_named_so(alloc, server, path)
+}
+
+// Whether the file has the name of a template, by the settings that count for it.
+fn is_named_so(alloc: Global, server: &Server, path: &str) -> Result<bool, AllocError> {
+    let extensions = extensions_for(alloc, server, path)?;
+    Ok(ends_in(path, extensions.as_slice()))
+}
+
+// How the names of templates end, by the settings that count for a file or a folder.
+fn extensions_for<'s>(
+    alloc: Global,
+    server: &'s Server,
+    path: &str,
+) -> Result<Vec<&'s str>, AllocError>
+    ensures { IfOk result (λ extensions. texts extensions.items ≡ extensions_in server.now path.now) }
+{
+    let mut extensions = Vec::new(alloc);
+    let Some(given) = extensions_given(server, path) else {
+        extensions.extend_from_slice(EXTENSIONS.as_slice())?;
+        return Ok(extensions);
+    };
+    for extension in given {
+        extensions.push(extension.as_str())?;
+    }
+    Ok(extensions)
+}
+
+// .. if the settings name them.
+fn extensions_given<'s>(server: &'s Server, path: &str) -> Option<&'s Vec<String>>
+    ensures { unwrap_or (option_map (λ given. map string_bytes given.now.items) result) extensions
+        ≡ extensions_in server.now path.now }
+{
+    server.settings_for(path)?.extensions.as_ref()
 }
 
 // Of a file that the reading of the folders leaves out no text is given.
@@ -417,10 +547,42 @@ fn give_single<F: Files + Input + AllocGlobal>(
     ensures loaded { OnOk result (IsLoaded path.now server.old server.new) }
     ensures unloaded { OnErr result (IsUnloaded path.now server.old server.new) }
 {
-    if is_left_out(files, server.folders(), path) {
-        return server.load(files.alloc(), path, OnDisk::Nothing);
+    if is_aside(files, server, path) || is_excluded_in(files, server, path)? {
+        return give_nothing(files, server, path);
     }
     give_file(files, server, path)
+}
+
+// No text is given of a file.
+fn give_nothing<F: Files + Input + AllocGlobal>(
+    files: &F,
+    server: &mut Server,
+    path: &str,
+) -> Result<(), AllocError>
+    ensures loaded { OnOk result (IsLoaded path.now server.old server.new) }
+    ensures unloaded { OnErr result (IsUnloaded path.now server.old server.new) }
+{
+    server.load(files.alloc(), path, OnDisk::Nothing)
+}
+
+// Whether the reading of the folders leaves the file out, and it is in no library.
+fn is_aside<F: Files + AllocGlobal>(files: &F, server: &Server, path: &str) -> bool {
+    is_left_out(files, server.folders(), path) && !server.is_in_library(path)
+}
+
+// Whether the settings that count for the file leave it out.
+fn is_excluded_in<F: Files + AllocGlobal>(
+    files: &F,
+    server: &Server,
+    path: &str,
+) -> Result<bool, AllocError> {
+    match server.settings_for(path) {
+        Some(settings) => {
+            let exclude = references(files.alloc(), &settings.exclude)?;
+            is_excluded(files, exclude.as_slice(), path)
+        }
+        None => Ok(false),
+    }
 }
 
 // Gives each file in the folder that is known again, and those that are there, if the folder is in one that is open.
@@ -456,7 +618,8 @@ fn give_known<F: Files + Input + AllocGlobal>(
     Ok(())
 }
 
-// A file that was known. Of one that is in no folder that is open no text is given any more.
+// A file that was known. Of one that is in no open folder, or does not have the name of a template any more, no text
+// is given.
 fn give_again<F: Files + Input + AllocGlobal>(
     files: &F,
     server: &mut Server,
@@ -465,10 +628,10 @@ fn give_again<F: Files + Input + AllocGlobal>(
     ensures loaded { OnOk result (IsLoaded path.now server.old server.new) }
     ensures unloaded { OnErr result (IsUnloaded path.now server.old server.new) }
 {
-    if is_in_any(server.folders(), path) {
+    if is_in_any(server.folders(), path) && is_named_so(files.alloc(), server, path)? {
         give_single(files, server, path)
     } else {
-        server.load(files.alloc(), path, OnDisk::Nothing)
+        give_nothing(files, server, path)
     }
 }
 
@@ -480,15 +643,47 @@ fn give_listed<F: Files + Input + AllocGlobal + Clone + Drop>(
     ensures given { OnOk result (AreListedGiven folder.now server.old server.new) }
     ensures in_part { OnErr result (AreListedGivenInPart folder.now server.old server.new) }
 {
-    let selection = Selection {
-        extensions: EXTENSIONS.as_slice(),
-        stdin: "-",
-    };
-    let found = files_of(files, selection, &[folder])?;
-    for file in &found.files {
-        give_file(files, server, file.as_str())?;
+    let found = listed(files, server, folder, &[folder])?;
+    give_files(files, server, &found.files)
+}
+
+fn give_files<F: Files + Input + AllocGlobal>(
+    files: &F,
+    server: &mut Server,
+    paths: &Vec<String>,
+) -> Result<(), AllocError>
+    ensures given { OnOk result (AreLoaded server.old (map string_bytes paths.now.items) server.new) }
+    ensures in_part { OnErr result (AreLoadedInPart (map string_bytes paths.now.items) server.old server.new) }
+{
+    for path in paths {
+        give_file(files, server, path.as_str())?;
     }
     Ok(())
+}
+
+// The templates that the paths mean by the settings of the folder, and that these do not leave out.
+fn listed<F: Files + AllocGlobal + Clone + Drop>(
+    files: &F,
+    server: &Server,
+    folder: &str,
+    paths: &[&str],
+) -> Result<Found, AllocError>
+    ensures { IfOk result (λ found. AreListed (extensions_in server.now folder.now) (texts paths.now)
+        (map string_bytes found.files.items)) }
+{
+    let extensions = extensions_for(files.alloc(), server, folder)?;
+    let selection = Selection {
+        extensions: extensions.as_slice(),
+        stdin: "-",
+    };
+    let found = files_of(files, selection, paths)?;
+    match server.settings_for(folder) {
+        Some(settings) => {
+            let exclude = references(files.alloc(), &settings.exclude)?;
+            leave_out(files, exclude.as_slice(), found)
+        }
+        None => Ok(found),
+    }
 }
 
 fn give_file<F: Files + Input + AllocGlobal>(

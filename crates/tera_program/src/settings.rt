@@ -1,25 +1,29 @@
 //! What the file of settings says for a job.
 
-ghost use Rattle.std.specs.Prelude.{◌≡◌, map, option_map, IfOk, string_bytes};
+ghost use Rattle.std.specs.Prelude.{◌≡◌, ◌-◌, Some, map, option_map, IfOk, string_bytes};
 ghost use Rattle.tera_files.specs.Names.{texts};
 ghost use Rattle.tera_settings.specs.Values.{text_view, texts_view};
-ghost use Rattle.tera_program.specs.Jobs.{lists_view};
-ghost use Rattle.tera_program.specs.Settings.{can_be, defaults_val, is_off, off_rules, or_none, place_text, site_val, words_val, words_view};
+ghost use Rattle.tera_check.specs.Registered.{AreListed, list_view, registered_if_any, registered_view};
+ghost use Rattle.settings_files.specs.Paths.{all_led_from, led_from};
+ghost use Rattle.tera_program.specs.Jobs.{lists_view, set_view};
+ghost use Rattle.tera_program.specs.Settings.{AreRegistered, defaults_val, is_off, off_rules, or_none, place_text, set_of, severity_at, site_val, words_val, words_view};
 
-use crate::explain::kind_named;
 use crate::explanations::OPTIONAL_RULES;
 use crate::job::{Common, Defaults, Job};
 use crate::markers;
 use crate::markers::{other_markers_of, steady_markers_of, why_unfit};
-use crate::output::{print_error, print_unread};
-use crate::reading::name_of;
+use crate::output::{print_error, print_unread, why_unread};
+use crate::reading::{name_of, without_point};
+use crate::site::itself_of;
 use settings_files::{
     Configured, Places, Unfit, WrongFile, places_of, settings_above, settings_at,
 };
 use std::alloc::{AllocError, Global};
+use std::path::Path;
 use std::rt::Files;
-use tera_check::Severity;
-use tera_settings::{Level, RuleLevel, Settings};
+use tera_check::{Registered, RuleLevel, Severity};
+use tera_server::{FolderSettings, FoundSettings, Reason};
+use tera_settings::{Known, Level, Settings};
 
 /// What a file of settings says. All is absent if there is none.
 #[derive(Drop)]
@@ -29,7 +33,8 @@ pub(crate) struct Site {
     exclude: Option<Vec<String>>,
     library: Option<Vec<String>>,
     markers: Option<String>,
-    off: Option<Vec<String>>,
+    rules: Vec<tera_settings::RuleLevel>,
+    known: Known,
 }
 
 /// The same, as the options of a job have it.
@@ -40,23 +45,31 @@ pub(crate) struct Words<'s> {
     exclude: Option<Vec<&'s str>>,
     library: Option<Vec<&'s str>>,
     markers: Option<&'s str>,
-    off: Option<Vec<&'s str>>,
+    set: Vec<RuleLevel<'s>>,
+    registered: Option<Registered<'s>>,
 }
 
 impl Site {
-    fn none() -> Site {
+    fn none(alloc: Global) -> Site {
         Site {
             root: None,
             extensions: None,
             exclude: None,
             library: None,
             markers: None,
-            off: None,
+            rules: Vec::new(alloc),
+            known: Known {
+                filters: None,
+                tests: None,
+                functions: None,
+            },
         }
     }
 
     pub(crate) fn words(&self, alloc: Global) -> Result<Words<'_>, AllocError>
-        ensures { IfOk result (λ words. words_val words ≡ site_val self.now) }
+        ensures words { IfOk result (λ words. words_val words ≡ site_val self.now) }
+        ensures registered { IfOk result (λ words.
+            AreRegistered self.now.known (option_map registered_view words.registered)) }
     {
         Ok(Words {
             root: word_of(&self.root),
@@ -64,7 +77,8 @@ impl Site {
             exclude: words_of(alloc, &self.exclude)?,
             library: words_of(alloc, &self.library)?,
             markers: word_of(&self.markers),
-            off: words_of(alloc, &self.off)?,
+            set: set_of(alloc, &self.rules)?,
+            registered: registered_of(alloc, &self.known)?,
         })
     }
 }
@@ -79,7 +93,18 @@ impl<'s> Words<'s> {
             exclude: slice_of(&self.exclude),
             library: slice_of(&self.library),
             markers: self.markers,
-            off: slice_of(&self.off),
+            set: self.set.as_slice(),
+        }
+    }
+
+    /// The names that the program registers, where they are known. They are not a part of the defaults, as a set has one
+    /// lifetime, and those of a job and of settings are two.
+    pub(crate) fn registered(&self) -> Option<&Registered<'s>>
+        ensures { registered_if_any result ≡ option_map registered_view self.now.registered }
+    {
+        match &self.registered {
+            Some(registered) => Some(registered),
+            None => None,
         }
     }
 }
@@ -105,7 +130,11 @@ fn words_of<'s>(
     }
 }
 
-fn references<'s>(alloc: Global, strings: &'s Vec<String>) -> Result<Vec<&'s str>, AllocError>
+/// The texts of the strings.
+pub(crate) fn references<'s>(
+    alloc: Global,
+    strings: &'s Vec<String>,
+) -> Result<Vec<&'s str>, AllocError>
     ensures { IfOk result (λ words. texts words.items ≡ map string_bytes strings.now.items) }
 {
     let mut words = Vec::new(alloc);
@@ -124,6 +153,65 @@ fn slice_of<'b, 's>(words: &'b Option<Vec<&'s str>>) -> Option<&'b [&'s str]>
     }
 }
 
+// What the rules are set to.
+fn set_of<'s>(
+    alloc: Global,
+    rules: &'s Vec<tera_settings::RuleLevel>,
+) -> Result<Vec<RuleLevel<'s>>, AllocError>
+    ensures { IfOk result (λ set. map set_view set.items ≡ map set_of rules.now.items) }
+{
+    let mut set = Vec::new(alloc);
+    for rule in rules {
+        set.push(RuleLevel {
+            rule: rule.rule.as_str(),
+            level: severity_at(rule.level),
+        })?;
+    }
+    Ok(set)
+}
+
+fn severity_at(level: Level) -> Option<Severity>
+    ensures { result ≡ severity_at level }
+{
+    match level {
+        Level::Off => None,
+        Level::Warning => Some(Severity::Warning),
+        Level::Error => Some(Severity::Error),
+    }
+}
+
+// The names of the lists, if there is one.
+fn registered_of(alloc: Global, known: &Known) -> Result<Option<Registered<'_>>, AllocError>
+    ensures { IfOk result (λ r. AreRegistered known.now (option_map registered_view r)) }
+{
+    match (&known.filters, &known.tests, &known.functions) {
+        (None, None, None) => Ok(None),
+        _ => Ok(Some(listed(alloc, known)?)),
+    }
+}
+
+fn listed(alloc: Global, known: &Known) -> Result<Registered<'_>, AllocError>
+    ensures { let k = known.now in IfOk result (λ r.
+        AreListed (texts_view k.filters) (texts_view k.tests) (texts_view k.functions)
+        (registered_view r)) }
+{
+    Registered::of(
+        alloc,
+        list_of(&known.filters),
+        list_of(&known.tests),
+        list_of(&known.functions),
+    )
+}
+
+fn list_of(list: &Option<Vec<String>>) -> Option<&[String]>
+    ensures { list_view result ≡ texts_view list.now }
+{
+    match list {
+        Some(list) => Some(list.as_slice()),
+        None => None,
+    }
+}
+
 /// What the file of settings says that counts for the job.
 pub(crate) fn site_of<R: Files + Input + AllocGlobal>(
     rt: &R,
@@ -138,7 +226,7 @@ pub(crate) fn site_of<R: Files + Input + AllocGlobal>(
     };
     match found {
         Some(file) => site_in(rt, matches!(job, Job::Format(_)), file),
-        None => Ok(Site::none()),
+        None => Ok(Site::none(rt.alloc())),
     }
 }
 
@@ -170,15 +258,17 @@ fn site_in<R: Files + AllocGlobal>(
     is_laid_out: bool,
     file: Configured,
 ) -> Result<Site, Unfit>
-    ensures off { IfOk result (λ site. or_none (texts_view site.off) ≡ off_rules file.settings.rules.items) }
+    ensures rules { IfOk result (λ site. site.rules ≡ file.settings.rules) }
+    ensures known { IfOk result (λ site. site.known ≡ file.settings.known) }
     ensures extensions { IfOk result (λ site. site.extensions ≡ file.settings.extensions) }
     ensures markers { IfOk result (λ site. site.markers ≡ file.settings.markers) }
+    ensures root { IfOk result (λ site. text_view site.root
+        ≡ option_map (led_from (string_bytes file.source.file)) (text_view file.settings.root)) }
+    ensures library { IfOk result (λ site. or_none (texts_view site.library)
+        ≡ all_led_from (string_bytes file.source.file) (or_none (texts_view file.settings.libraries))) }
 {
-    check_known(rt.alloc(), &file)?;
-    check_levels(rt.alloc(), &file)?;
     check_markers(rt.alloc(), is_laid_out, &file)?;
     let places = places_of(rt, &file)?;
-    let off = off_of(rt.alloc(), file.settings.rules.as_slice())?;
     let Places {
         root,
         libraries,
@@ -191,6 +281,8 @@ fn site_in<R: Files + AllocGlobal>(
     let Settings {
         extensions,
         markers,
+        rules,
+        known,
         ..
     } = settings;
     Ok(Site {
@@ -199,7 +291,8 @@ fn site_in<R: Files + AllocGlobal>(
         exclude: if_any(exclude),
         library: if_any(libraries),
         markers,
-        off: if_any(off),
+        rules,
+        known,
     })
 }
 
@@ -207,53 +300,6 @@ fn if_any(texts: Vec<String>) -> Option<Vec<String>>
     ensures { or_none (texts_view result) ≡ map string_bytes texts.items }
 {
     if texts.is_empty() { None } else { Some(texts) }
-}
-
-// The lists of names, which no rule uses.
-fn check_known(alloc: Global, file: &Configured) -> Result<(), Unfit> {
-    let known = &file.settings.known;
-    check_list(alloc, file, "filters", known.filters.is_some())?;
-    check_list(alloc, file, "tests", known.tests.is_some())?;
-    check_list(alloc, file, "functions", known.functions.is_some())
-}
-
-fn check_list(
-    alloc: Global,
-    file: &Configured,
-    key: &'static str,
-    is_set: bool,
-) -> Result<(), Unfit> {
-    if !is_set {
-        return Ok(());
-    }
-    let message = format!(in alloc; "`{key}`: no rule of this version uses it")?;
-    Err(file.wrong(alloc, Some("known"), key, message))
-}
-
-// The levels that are set: the findings of a rule can be off, or as grave as they are.
-fn check_levels(alloc: Global, file: &Configured) -> Result<(), Unfit> {
-    for rule in &file.settings.rules {
-        let name = rule.rule.as_str();
-        if let Some(kind) = kind_named(name) {
-            if !can_be(rule.level, kind.severity()) {
-                let severity = kind.severity().name();
-                let message = format!(in alloc; "`{name}`: expected \"off\" or \"{severity}\"")?;
-                return Err(file.wrong(alloc, Some("rules"), name, message));
-            }
-        }
-    }
-    Ok(())
-}
-
-// Whether findings that are so grave can have the level.
-fn can_be(level: Level, severity: Severity) -> bool
-    ensures { result ≡ can_be level severity }
-{
-    match level {
-        Level::Off => true,
-        Level::Warning => matches!(severity, Severity::Warning),
-        Level::Error => matches!(severity, Severity::Error),
-    }
 }
 
 // The markers, as `--markers` would have them.
@@ -278,7 +324,7 @@ fn why_not_markers(alloc: Global, is_laid_out: bool, markers: &str) -> Option<ma
 }
 
 // The names of the rules that are off.
-fn off_of(alloc: Global, rules: &[RuleLevel]) -> Result<Vec<String>, AllocError>
+fn off_of(alloc: Global, rules: &[tera_settings::RuleLevel]) -> Result<Vec<String>, AllocError>
     ensures { IfOk result (λ off. map string_bytes off.items ≡ off_rules rules.now) }
 {
     let mut off = Vec::new(alloc);
@@ -290,10 +336,132 @@ fn off_of(alloc: Global, rules: &[RuleLevel]) -> Result<Vec<String>, AllocError>
     Ok(off)
 }
 
-fn is_off(rule: &RuleLevel) -> bool
+fn is_off(rule: &tera_settings::RuleLevel) -> bool
     ensures { result ≡ is_off rule.now }
 {
     matches!(rule.level, Level::Off)
+}
+
+/// What counts for the templates in a folder: the settings of the nearest file in it or above it.
+pub(crate) fn found_for_folder<R: Files + Input + AllocGlobal>(
+    rt: &R,
+    folder: &str,
+) -> Result<FoundSettings, AllocError> {
+    match settings_above(rt, OPTIONAL_RULES.as_slice(), folder) {
+        Ok(Some(file)) => found_in(rt, file),
+        Ok(None) => Ok(FoundSettings::Nothing),
+        Err(why) => wrong_for(rt, why),
+    }
+}
+
+fn found_in<R: Files + AllocGlobal>(rt: &R, file: Configured) -> Result<FoundSettings, AllocError> {
+    let path = whole_path(rt, file.source.file.as_str())?;
+    match site_in(rt, false, file) {
+        Ok(site) => Ok(FoundSettings::Set(path, folder_settings(rt, site)?)),
+        Err(why) => wrong_for(rt, why),
+    }
+}
+
+fn folder_settings<R: Files + AllocGlobal>(rt: &R, site: Site) -> Result<FolderSettings, AllocError>
+    ensures off { IfOk result (λ s. map string_bytes s.off.items ≡ off_rules site.rules.items) }
+    ensures exclude { IfOk result (λ s.
+        map string_bytes s.exclude.items ≡ or_none (texts_view site.exclude)) }
+{
+    let Site {
+        extensions,
+        exclude,
+        library,
+        rules,
+        ..
+    } = site;
+    Ok(FolderSettings {
+        extensions: without_points(rt.alloc(), &extensions)?,
+        libraries: known_paths(rt, &or_empty(rt.alloc(), library))?,
+        exclude: or_empty(rt.alloc(), exclude),
+        off: off_of(rt.alloc(), rules.as_slice())?,
+    })
+}
+
+fn or_empty(alloc: Global, texts: Option<Vec<String>>) -> Vec<String>
+    ensures { map string_bytes result.items ≡ or_none (texts_view texts) }
+{
+    match texts {
+        Some(texts) => texts,
+        None => Vec::new(alloc),
+    }
+}
+
+// The paths by which the system knows these, except where it knows none.
+fn known_paths<R: Files + AllocGlobal>(
+    rt: &R,
+    paths: &Vec<String>,
+) -> Result<Vec<String>, AllocError> {
+    let mut known = Vec::new(rt.alloc());
+    for path in paths {
+        if let Some(itself) = itself_of(rt, path.as_str())? {
+            known.push(itself)?;
+        }
+    }
+    Ok(known)
+}
+
+fn without_points(
+    alloc: Global,
+    given: &Option<Vec<String>>,
+) -> Result<Option<Vec<String>>, AllocError> {
+    let Some(given) = given else {
+        return Ok(None);
+    };
+    let mut extensions = Vec::new(alloc);
+    for extension in given {
+        extensions.push(String::from_str(alloc, without_point(extension.as_str()))?)?;
+    }
+    Ok(Some(extensions))
+}
+
+// Why no settings can be had.
+fn wrong_for<R: Files + AllocGlobal>(rt: &R, why: Unfit) -> Result<FoundSettings, AllocError> {
+    match why {
+        Unfit::Memory => Err(AllocError),
+        Unfit::Unread(file, why) => {
+            let path = whole_path(rt, file.as_str())?;
+            let message = why_unread(rt.alloc(), why)?;
+            Ok(FoundSettings::Wrong(
+                path,
+                Reason {
+                    line: None,
+                    message,
+                },
+            ))
+        }
+        Unfit::Wrong(wrong) => {
+            let path = whole_path(rt, wrong.file.as_str())?;
+            Ok(FoundSettings::Wrong(path, reason_of(wrong)))
+        }
+    }
+}
+
+// What is wrong, at a line that is counted from 0.
+fn reason_of(wrong: WrongFile) -> Reason
+    ensures line { result.line ≡ Some (wrong.line - 1) }
+    ensures message { result.message ≡ wrong.message }
+{
+    Reason {
+        line: Some(wrong.line.saturating_sub(1)),
+        message: wrong.message,
+    }
+}
+
+// The path from the top of the system, of one that is from the folder in which the program runs.
+fn whole_path<R: Files + AllocGlobal>(rt: &R, path: &str) -> Result<String, AllocError> {
+    match itself_of(rt, ".")? {
+        Some(here) => Ok(
+            Path::new(here.as_str())
+                .join(rt.alloc(), path)?
+                .into_string(),
+        ),
+        None => String::from_str(rt.alloc(), path),
+    }
 }
 
 /// Says on standard error why there are no settings.

@@ -62,8 +62,11 @@ fn folder_of(path: Path<'_>) -> &str {
     }
 }
 
-// The path by which the system knows a folder, if it knows it.
-fn itself_of<R: Files + AllocGlobal>(rt: &R, folder: &str) -> Result<Option<String>, AllocError> {
+/// The path by which the system knows a folder, if it knows it.
+pub(crate) fn itself_of<R: Files + AllocGlobal>(
+    rt: &R,
+    folder: &str,
+) -> Result<Option<String>, AllocError> {
     match fs::canonicalize(rt, folder) {
         Ok(itself) => Ok(Some(itself.into_string())),
         Err(error) if error.kind() == io::ErrorKind::OutOfMemory => Err(AllocError),

@@ -14,7 +14,7 @@ use Rattle.tera_check.specs.declared.finding.Kind.{Kind}
 use Rattle.tera_check.specs.declared.finding.Kind.TheVariants as kinds
 use Rattle.tera_check.specs.declared.finding.Severity.{Severity}
 use Rattle.tera_check.specs.declared.finding.Severity.TheVariants.{Error, Warning}
-use Rattle.tera_check.specs.Findings.{NoteVal, FindingOf, kind_name, severity_of}
+use Rattle.tera_check.specs.Findings.{NoteVal, FoundAs, kind_name}
 use Rattle.tera_report.specs.Annotations.{command_of, escaped_character, property_character, escaped, property, column_of, span_text, annotation, IsOneLine}
 
 abbrev Lacks : List ℕ → Type 0
@@ -80,11 +80,16 @@ named kinds.RepeatedArgument = literal (kind_name kinds.RepeatedArgument) refl
 named kinds.UnusedParameter = literal (kind_name kinds.UnusedParameter) refl
 named kinds.DefinedAgain = literal (kind_name kinds.DefinedAgain) refl
 named kinds.RepeatedKey = literal (kind_name kinds.RepeatedKey) refl
+named kinds.RepeatedCondition = literal (kind_name kinds.RepeatedCondition) refl
+named kinds.UnusedIgnore = literal (kind_name kinds.UnusedIgnore) refl
 named kinds.MissingTemplate = literal (kind_name kinds.MissingTemplate) refl
 named kinds.CircularExtends = literal (kind_name kinds.CircularExtends) refl
 named kinds.CircularInclude = literal (kind_name kinds.CircularInclude) refl
 named kinds.UndefinedBlock = literal (kind_name kinds.UndefinedBlock) refl
 named kinds.SuperWithoutParent = literal (kind_name kinds.SuperWithoutParent) refl
+named kinds.UnknownFilter = literal (kind_name kinds.UnknownFilter) refl
+named kinds.UnknownTest = literal (kind_name kinds.UnknownTest) refl
+named kinds.UnknownFunction = literal (kind_name kinds.UnknownFunction) refl
 
 commanded : (severity : Severity) → Lacks (command_of severity)
 commanded Error = literal (command_of Error) refl
@@ -104,13 +109,13 @@ placed s start end =
 ends : (a b c d e f g h : List ℕ) → a ++ (b ++ (c ++ (d ++ (e ++ (f ++ (g ++ h)))))) ≡ (a ++ (b ++ (c ++ (d ++ (e ++ (f ++ g)))))) ++ h
 ends a b c d e f g h = simp append_assoc
 
-pub one_line : (file : List ℕ) (kind : Kind) (s : Span) (text : List ℕ) (notes : List NoteVal) → s.start_line < 2 ^ 64 → s.end_line < 2 ^ 64 → IsOneLine (annotation file (FindingOf kind s text notes))
+pub one_line : (file : List ℕ) (kind : Kind) (severity : Severity) (s : Span) (text : List ℕ) (notes : List NoteVal) → s.start_line < 2 ^ 64 → s.end_line < 2 ^ 64 → IsOneLine (annotation file (FoundAs kind severity s text notes))
 unfolding annotation
-one_line file kind s text notes start end =
-    let line = command_of (severity_of kind) ++ (property file ++ (span_text s ++ (codes ",title=" ++ (kind_name kind ++ (codes "::" ++ escaped (on_one_line text)))))) in (
+one_line file kind severity s text notes start end =
+    let line = command_of severity ++ (property file ++ (span_text s ++ (codes ",title=" ++ (kind_name kind ++ (codes "::" ++ escaped (on_one_line text)))))) in (
       line,
-      ends (command_of (severity_of kind)) (property file) (span_text s) (codes ",title=") (kind_name kind) (codes "::") (escaped (on_one_line text)) (codes "\n"),
-      joined (command_of (severity_of kind)) _ (commanded (severity_of kind))
+      ends (command_of severity) (property file) (span_text s) (codes ",title=") (kind_name kind) (codes "::") (escaped (on_one_line text)) (codes "\n"),
+      joined (command_of severity) _ (commanded severity)
           (joined (property file) _ (each property_character property_lacks (chars file))
           (joined (span_text s) _ (placed s start end)
           (joined (codes ",title=") _ (literal (codes ",title=") refl)

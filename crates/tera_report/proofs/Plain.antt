@@ -3,7 +3,7 @@ use Rattle.std.proofs.Common.{◌≡◌, ℕ, List, [], ◌∷◌, ◌++◌, cod
 use Rattle.std.specs.List.{flat_map}
 use Rattle.line_text.specs.Line.{on_one_line}
 use Rattle.tera_base.specs.declared.utils.Span.{Span}
-use Rattle.tera_check.specs.Findings.{NoteVal, NoteOf, FindingVal, FindingOf, place_of}
+use Rattle.tera_check.specs.Findings.{NoteVal, NoteOf, FindingVal, FoundAs, place_of}
 use Rattle.tera_report.specs.FullTexts.{word_of, message, message_line, note_text, full_text, line_of, note_line, lines_of}
 use Rattle.tera_report.specs.declared.role.Role.{Role}
 use Rattle.tera_report.specs.declared.role.Role.TheVariants.{Finding, Note}
@@ -26,8 +26,8 @@ plain_notes (NoteOf file span text ∷ notes) = λ i. plain_message Note file sp
 
 pub plain_is : (file : List ℕ) (finding : FindingVal) → full_text Plain (λ _. None) file finding ≡ lines_of file finding
 unfolding full_text
-plain_is file (FindingOf kind span text notes) =
-    λ i. plain_message (Finding kind) file span text i ++ plain_notes notes i
+plain_is file (FoundAs kind severity span text notes) =
+    λ i. plain_message (Finding kind severity) file span text i ++ plain_notes notes i
 
 pub plain_without : (known : List ℕ → Option (List ℕ)) (file : List ℕ) (finding : FindingVal)
     → ((other : List ℕ) → known other ≡ None) → full_text Plain known file finding ≡ lines_of file finding

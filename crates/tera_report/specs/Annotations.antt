@@ -4,7 +4,7 @@ use Rattle.std.specs.Fmt.{decimal}
 use Rattle.std.specs.List.{flat_map, AllByRecursion}
 use Rattle.line_text.specs.Line.{on_one_line}
 use Rattle.tera_base.specs.declared.utils.Span.{Span}
-use Rattle.tera_check.specs.Findings.{FindingVal, FindingOf, kind_name, severity_of}
+use Rattle.tera_check.specs.Findings.{FindingVal, FoundAs, kind_name}
 use Rattle.tera_check.specs.declared.finding.Severity.{Severity}
 use Rattle.tera_check.specs.declared.finding.Severity.TheVariants.{Error, Warning}
 
@@ -46,8 +46,8 @@ command_of Warning = codes "::warning file="
 
 -- the command of a finding in a file; its message is on one line, and the file is named as it is
 unfoldable pub annotation : List ℕ → FindingVal → List ℕ
-annotation file (FindingOf kind span text notes) =
-    command_of (severity_of kind) ++ (property file
+annotation file (FoundAs kind severity span text notes) =
+    command_of severity ++ (property file
     ++ (span_text span
     ++ (codes ",title=" ++ (kind_name kind
     ++ (codes "::" ++ (escaped (on_one_line text) ++ codes "\n"))))))

@@ -2,7 +2,7 @@
 use Rattle.std.specs.Prelude.{ℕ, ◌==◌, if◌then◌else◌, List, [], ◌∷◌, ◌++◌, flat_map, Option, Some, None, codes, decimal}
 use Rattle.line_text.specs.Line.{on_one_line}
 use Rattle.tera_base.specs.declared.utils.Span.{Span}
-use Rattle.tera_check.specs.Findings.{NoteVal, NoteOf, FindingVal, FindingOf, label_of, place_of, severity_of}
+use Rattle.tera_check.specs.Findings.{NoteVal, NoteOf, FindingVal, FoundAs, label_of, place_of}
 use Rattle.tera_check.specs.declared.finding.Place.{Place}
 use Rattle.tera_check.specs.declared.finding.Severity.{Severity}
 use Rattle.tera_check.specs.declared.finding.Severity.TheVariants as severities
@@ -18,7 +18,7 @@ use Rattle.terminal_text.specs.declared.style.Style.{Style}
 
 -- a message by what it is: its word, with the rule of a finding, and its colour
 abbrev pub word_of : Role → List ℕ
-word_of (Finding kind) = label_of kind
+word_of (Finding kind severity) = label_of kind severity
 word_of Note = codes "note"
 
 abbrev pub colour_of : Severity → Part
@@ -26,7 +26,7 @@ colour_of severities.Error = parts.Error
 colour_of severities.Warning = parts.Warning
 
 abbrev pub part_of : Role → Part
-part_of (Finding kind) = colour_of (severity_of kind)
+part_of (Finding kind severity) = colour_of severity
 part_of Note = parts.Note
 
 -- a file with a place in it
@@ -52,8 +52,8 @@ note_text style known (NoteOf file span text) = message style known Note file sp
 
 -- the finding in a file, and its notes
 unfoldable pub full_text : Style → (List ℕ → Option (List ℕ)) → List ℕ → FindingVal → List ℕ
-full_text style known file (FindingOf kind span text notes) =
-    message style known (Finding kind) file span text ++ flat_map (note_text style known) notes
+full_text style known file (FoundAs kind severity span text notes) =
+    message style known (Finding kind severity) file span text ++ flat_map (note_text style known) notes
 
 -- without colours and sources: a line says where, what it is called, and what
 abbrev pub line_of : List ℕ → Place → List ℕ → List ℕ → List ℕ
@@ -65,4 +65,5 @@ note_line (NoteOf file span text) = line_of file (place_of span) (codes "note") 
 
 -- the lines of a finding in a file: its own, and one for each of its notes
 abbrev pub lines_of : List ℕ → FindingVal → List ℕ
-lines_of file (FindingOf kind span text notes) = line_of file (place_of span) (label_of kind) text ++ flat_map note_line notes
+lines_of file (FoundAs kind severity span text notes) =
+    line_of file (place_of span) (label_of kind severity) text ++ flat_map note_line notes

@@ -5,7 +5,7 @@ use Rattle.file_uris.specs.Encoding.{reference}
 use Rattle.json.specs.Token.{Token, begin_object, end_object, begin_array, end_array, key}
 use Rattle.json_members.specs.Members.{text_member, number_member}
 use Rattle.tera_base.specs.declared.utils.Span.{Span}
-use Rattle.tera_check.specs.Findings.{NoteVal, NoteOf, FindingVal, FindingOf, kind_name, all_kinds, severity_of, severity_name}
+use Rattle.tera_check.specs.Findings.{NoteVal, NoteOf, FindingVal, FoundAs, kind_name, all_kinds, severity_name}
 use Rattle.tera_check.specs.declared.finding.Kind.{Kind}
 use Rattle.tera_report.specs.Annotations.{column_of}
 
@@ -59,9 +59,9 @@ notes_member notes = array_member (codes "relatedLocations") (flat_map note_obje
 
 -- the result of a finding in a file
 unfoldable pub result_object : List ℕ → FindingVal → List Token
-result_object file (FindingOf kind span text notes) =
+result_object file (FoundAs kind severity span text notes) =
     begin_object ∷ (text_member (codes "ruleId") (kind_name kind)
-    ++ (text_member (codes "level") (severity_name (severity_of kind))
+    ++ (text_member (codes "level") (severity_name severity)
     ++ (message text ++ (locations file span ++ (notes_member notes ++ end_object ∷ [])))))
 
 -- the kinds of what is found

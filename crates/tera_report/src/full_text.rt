@@ -28,7 +28,7 @@ pub fn push_full(
     ensures same { (other : List ℕ) → source_of sources.new other ≡ source_of sources.old other }
 {
     let message = Message {
-        role: Role::Finding(finding.kind),
+        role: Role::Finding(finding.kind, finding.severity),
         file,
         span: &finding.span,
         text: finding.message.as_str(),

@@ -24,7 +24,7 @@ pub fn push_annotation(
         ≡ string_bytes to.old ++ annotation file.now (finding_view finding.now)) }
 {
     let place = span_of(alloc, &finding.span)?;
-    to.push_str(command(finding.kind.severity()))?;
+    to.push_str(command(finding.severity))?;
     push_property(to, file)?;
     to.push_str(place.as_str())?;
     to.push_str(",title=")?;

@@ -10,8 +10,8 @@ use terminal_text::Part;
 /// A finding, or what explains one.
 #[derive(Clone, Copy)]
 pub(crate) enum Role {
-    /// A finding of this kind.
-    Finding(Kind),
+    /// A finding of this kind, that is so grave.
+    Finding(Kind, Severity),
     /// What explains a finding.
     Note,
 }
@@ -22,7 +22,7 @@ impl Role {
         ensures { IfOk result (λ word. string_bytes word ≡ word_of self) }
     {
         match self {
-            Role::Finding(kind) => kind.label(alloc),
+            Role::Finding(kind, severity) => kind.label(alloc, severity),
             Role::Note => String::from_str(alloc, "note"),
         }
     }
@@ -32,7 +32,7 @@ impl Role {
         ensures { result ≡ part_of self }
     {
         match self {
-            Role::Finding(kind) => colour(kind.severity()),
+            Role::Finding(_, severity) => colour(severity),
             Role::Note => Part::Note,
         }
     }

@@ -87,7 +87,7 @@ pub fn put_result(
 {
     out.begin_object()?;
     put_text(out, "ruleId", finding.kind.name())?;
-    put_text(out, "level", finding.kind.severity().name())?;
+    put_text(out, "level", finding.severity.name())?;
     put_message(out, finding.message.as_str())?;
     put_locations(alloc, out, file, &finding.span)?;
     put_notes(alloc, out, &finding.notes)?;

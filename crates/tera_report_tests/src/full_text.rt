@@ -3,7 +3,7 @@
 use std::alloc::{AllocError, Global};
 use std::test::Fail;
 use tera_base::Span;
-use tera_check::{Finding, KINDS, Kind, Note};
+use tera_check::{Finding, KINDS, Kind, Note, Severity};
 use tera_report::{push_full, push_lines};
 use terminal_text::{Sources, Style};
 
@@ -28,6 +28,7 @@ fn finding(alloc: Global) -> Result<Finding, AllocError> {
     notes.push(note)?;
     Ok(Finding {
         kind: Kind::UnknownArgument,
+        severity: Severity::Error,
         span: span(2, 11, 2, 15),
         message: String::from_str(alloc, "Unknown\nargument")?,
         notes,
@@ -85,6 +86,7 @@ fn warning_without_sources(rt: HostRuntime) -> Result<(), Fail> {
     let mut text = String::new(alloc);
     let finding = Finding {
         kind: Kind::RepeatedArgument,
+        severity: Severity::Warning,
         span: span(1, 2, 1, 3),
         message: String::from_str(alloc, "Given again")?,
         notes: Vec::new(alloc),
@@ -108,17 +110,20 @@ fn warning_without_sources(rt: HostRuntime) -> Result<(), Fail> {
 fn a_line_says_how_grave_it_is(rt: HostRuntime) -> Result<(), Fail> {
     let alloc = rt.alloc();
     for kind in &KINDS {
-        let finding = Finding {
-            kind: *kind,
-            ..finding(alloc)?
-        };
-        let mut text = String::new(alloc);
-        push_lines(alloc, &mut text, "a", &finding)?;
-        let (word, rule) = (kind.severity().name(), kind.name());
-        let lines = format!(in alloc;
-            "a:2:12: {word}[{rule}]: Unknown\\nargument\nui.html:1:4: note: `button` is defined here\n"
-        )?;
-        assert_eq!(&rt; text.as_str(), lines.as_str());
+        for severity in &[Severity::Error, Severity::Warning] {
+            let finding = Finding {
+                kind: *kind,
+                severity: *severity,
+                ..finding(alloc)?
+            };
+            let mut text = String::new(alloc);
+            push_lines(alloc, &mut text, "a", &finding)?;
+            let (word, rule) = (severity.name(), kind.name());
+            let lines = format!(in alloc;
+                "a:2:12: {word}[{rule}]: Unknown\\nargument\nui.html:1:4: note: `button` is defined here\n"
+            )?;
+            assert_eq!(&rt; text.as_str(), lines.as_str());
+        }
     }
     Ok(())
 }

@@ -1,5 +1,5 @@
 -- Members that may be left out, as they are written.
-use Rattle.std.proofs.Common.{◌≡◌, ◌∙◌, ◌++◌, ◌∷◌, [], ℕ, List, Bool, true, false, Option, None, Some, codes, map, refl, ap, append_assoc}
+use Rattle.std.proofs.Common.{◌≡◌, ◌∙◌, ◌++◌, ◌∷◌, [], ℕ, List, Bool, true, false, cond, filter, if◌then◌else◌, Option, None, Some, codes, map, refl, ap, append_assoc}
 use Rattle.std.specs.List.{flat_map}
 use Rattle.std.specs.Option.{option_map, option_to_list}
 use Rattle.json.specs.Json.{Json, Members}
@@ -8,7 +8,9 @@ use Rattle.json.specs.Tree.{json_tokens, items_tokens, members_tokens}
 use Rattle.json.specs.Value.{items_of}
 use Rattle.tera_workspace.specs.Diagnostics.{DiagnosticVal, RelatedVal}
 use Rattle.tera_server.specs.Editors.{seen_of, uri_in, version_in}
-use Rattle.tera_server.specs.Findings.{related_members, related_tokens, with_version, version_tokens, unread_json, unread_tokens, diagnostic_json, diagnostics_json, one_found, found_json}
+use Rattle.tera_server.specs.Findings.{related_members, related_tokens, with_version, version_tokens, reason_json, reason_tokens, diagnostic_json, diagnostics_json, found_if_on, one_found, found_json}
+use Rattle.tera_server.specs.Settings.{Shown, is_shown}
+use Rattle.tera_server.specs.UnreadFiles.{ReasonVal}
 use Rattle.tera_server.specs.declared.editor.Editor.{Editor}
 use Rattle.tera_server.proofs.ArrayLemmas.{items_written}
 
@@ -20,27 +22,39 @@ pub related_written : (e : Editor) (reported : Bool) (rs : List RelatedVal) → 
 related_written e true rs = refl
 related_written e false rs = refl
 
-pub unread_written : (why : Option (List ℕ)) (js : List Json) →
-    items_tokens (items_of (option_to_list (option_map unread_json why) ++ js)) ≡ unread_tokens why ++ items_tokens (items_of js)
-unread_written None js = refl
-unread_written (Some text) js = refl
+pub reason_written : (why : Option ReasonVal) (js : List Json) →
+    items_tokens (items_of (option_to_list (option_map reason_json why) ++ js)) ≡ reason_tokens why ++ items_tokens (items_of js)
+reason_written None js = refl
+reason_written (Some r) js = refl
+
+-- the findings that are on, each as it is written
+pub on_written : (e : Editor) (reported : Bool) (shown : Shown) (ds : List DiagnosticVal) →
+    flat_map (found_if_on e reported shown) ds ≡ flat_map (one_found e reported) (filter (is_shown shown) ds)
+on_written e reported shown [] = refl
+on_written e reported shown (d ∷ ds) = by (is_shown shown d) (on_written e reported shown ds)
+  where
+    by : (on : Bool) → flat_map (found_if_on e reported shown) ds ≡ flat_map (one_found e reported) (filter (is_shown shown) ds) →
+        (if on then one_found e reported d else []) ++ flat_map (found_if_on e reported shown) ds
+        ≡ flat_map (one_found e reported) (cond on (d ∷ filter (is_shown shown) ds) (filter (is_shown shown) ds))
+    by true rest = ap (λ ts. one_found e reported d ++ ts) rest
+    by false rest = rest
 
 -- what is published of a document, as it is written
-abbrev pub found_tokens : Editor → Bool → List ℕ → Option (List ℕ) → List DiagnosticVal → List Token
+abbrev pub found_tokens : Editor → Bool → List ℕ → Option ReasonVal → List DiagnosticVal → List Token
 found_tokens e reported name why ds =
     begin_object ∷ (key (codes "uri") ∷ (string (uri_in name (seen_of e name)) ∷ (version_tokens (version_in (seen_of e name))
-    ++ (key (codes "diagnostics") ∷ (begin_array ∷ (unread_tokens why ++ (flat_map (one_found e reported) ds ++ (end_array ∷ (end_object ∷ [])))))))))
+    ++ (key (codes "diagnostics") ∷ (begin_array ∷ (reason_tokens why ++ (flat_map (one_found e reported) ds ++ (end_array ∷ (end_object ∷ [])))))))))
 
-diagnostics_written : (e : Editor) (reported : Bool) (why : Option (List ℕ)) (ds : List DiagnosticVal) →
-    items_tokens (items_of (diagnostics_json e reported why ds)) ++ end_object ∷ [] ≡ unread_tokens why ++ (flat_map (one_found e reported) ds ++ (end_array ∷ (end_object ∷ [])))
+diagnostics_written : (e : Editor) (reported : Bool) (why : Option ReasonVal) (ds : List DiagnosticVal) →
+    items_tokens (items_of (diagnostics_json e reported why ds)) ++ end_object ∷ [] ≡ reason_tokens why ++ (flat_map (one_found e reported) ds ++ (end_array ∷ (end_object ∷ [])))
 unfolding one_found
 diagnostics_written e reported why ds =
     let found = flat_map (λ d. json_tokens (diagnostic_json e reported d)) ds in
-    ap (λ ts. ts ++ end_object ∷ []) (unread_written why (map (diagnostic_json e reported) ds) ∙ ap (λ ts. unread_tokens why ++ ts) (items_written (diagnostic_json e reported) ds))
-    ∙ (append_assoc (unread_tokens why) (found ++ end_array ∷ []) (end_object ∷ [])
-    ∙ ap (λ ts. unread_tokens why ++ ts) (append_assoc found (end_array ∷ []) (end_object ∷ [])))
+    ap (λ ts. ts ++ end_object ∷ []) (reason_written why (map (diagnostic_json e reported) ds) ∙ ap (λ ts. reason_tokens why ++ ts) (items_written (diagnostic_json e reported) ds))
+    ∙ (append_assoc (reason_tokens why) (found ++ end_array ∷ []) (end_object ∷ [])
+    ∙ ap (λ ts. reason_tokens why ++ ts) (append_assoc found (end_array ∷ []) (end_object ∷ [])))
 
-pub found_written : (e : Editor) (reported : Bool) (name : List ℕ) (why : Option (List ℕ)) (ds : List DiagnosticVal) → json_tokens (found_json e reported name why ds) ≡ found_tokens e reported name why ds
+pub found_written : (e : Editor) (reported : Bool) (name : List ℕ) (why : Option ReasonVal) (ds : List DiagnosticVal) → json_tokens (found_json e reported name why ds) ≡ found_tokens e reported name why ds
 found_written e reported name why ds =
     let version = version_in (seen_of e name) in
     ap (λ ts. begin_object ∷ (key (codes "uri") ∷ (string (uri_in name (seen_of e name)) ∷ ts)))

@@ -1,6 +1,7 @@
 pub mod AnswerLemmas
 pub mod ArrayLemmas
 pub mod CompletionLemmas
+pub mod ConfiguringLemmas
 pub mod EditorLemmas
 pub mod FindingLemmas
 pub mod ForestLemmas
@@ -18,6 +19,7 @@ pub mod SelectionLemmas
 pub mod StepLemmas
 pub mod Tails
 pub mod TemplateNames
+pub mod TextMaps
 pub mod TokenLemmas
 pub mod UnreadLemmas
 pub mod WithName

@@ -12,13 +12,11 @@ use Rattle.tera_workspace.specs.Names.{is_among}
 use Rattle.tera_workspace.specs.Workspaces.{reported_of_name, IsKept, IsSettled, AreOthers}
 use Rattle.tera_workspace.specs.declared.workspace.Workspace.{Workspace}
 use Rattle.tera_server.specs.Editors.{state_of}
-use Rattle.tera_server.specs.Sending.{with_all, found_message, unless_lost, messages_in, SendsFirst, names_beside}
+use Rattle.tera_server.specs.Sending.{with_all, found_message, unless_lost, messages_in, publisher_of, Publisher, SendsFirst, names_beside}
 use Rattle.tera_server.specs.Settling.{due_of, ArePublished, ArePublishedInPart}
-use Rattle.tera_server.specs.declared.editor.Editor.{Editor}
 use Rattle.tera_server.specs.declared.editor.DocumentState.{DocumentState}
 use Rattle.tera_server.specs.declared.editor.DocumentState.TheVariants.{Open, Lost, Closed}
 use Rattle.tera_server.specs.declared.server.Server.{Server}
-use Rattle.tera_server.specs.declared.unread.UnreadFiles.{UnreadFiles}
 
 -- ---- more messages
 
@@ -37,20 +35,20 @@ with_twice o a b = ap (sent_as o.reserved) (append_assoc o.sent a b)
 abbrev pub Joins : (List (List ℕ) → List (List ℕ)) → Type 0
 Joins messages = (xs ys : List (List ℕ)) → messages (xs ++ ys) ≡ messages xs ++ messages ys
 
-pub messages_join : (e : Editor) (u : UnreadFiles) (related : Bool) (w : Workspace) → Joins (messages_in e u related w)
-messages_join e u related w xs ys = flat_map-append (λ n. unless_lost (state_of e n) (found_message e u related w n)) xs ys
+pub messages_join : (p : Publisher) (w : Workspace) → Joins (messages_in p w)
+messages_join p w xs ys = flat_map-append (λ n. unless_lost (state_of p.editor n) (found_message p w n)) xs ys
 
-pub beside_join : (e : Editor) (u : UnreadFiles) (related : Bool) (w : Workspace) (others : List (List ℕ)) → Joins (λ ns. messages_in e u related w (names_beside others ns))
-beside_join e u related w others xs ys =
-    ap (messages_in e u related w) (filter-append (λ n. not (is_among n others)) xs ys)
-    ∙ messages_join e u related w (names_beside others xs) (names_beside others ys)
+pub beside_join : (p : Publisher) (w : Workspace) (others : List (List ℕ)) → Joins (λ ns. messages_in p w (names_beside others ns))
+beside_join p w others xs ys =
+    ap (messages_in p w) (filter-append (λ n. not (is_among n others)) xs ys)
+    ∙ messages_join p w (names_beside others xs) (names_beside others ys)
 
 -- the message of one document, unless it is open with a text that is not known
-pub one_sent : (e : Editor) (u : UnreadFiles) (related : Bool) (w : Workspace) (n m : List ℕ) (o : Outgoing) → (state_of e n ≡ Open) ⊎ (state_of e n ≡ Closed) → m ≡ found_message e u related w n
-    → more o m ≡ with_all o (messages_in e u related w (n ∷ []))
-one_sent e u related w n m o sound is = by (state_of e n) sound
+pub one_sent : (p : Publisher) (w : Workspace) (n m : List ℕ) (o : Outgoing) → (state_of p.editor n ≡ Open) ⊎ (state_of p.editor n ≡ Closed) → m ≡ found_message p w n
+    → more o m ≡ with_all o (messages_in p w (n ∷ []))
+one_sent p w n m o sound is = by (state_of p.editor n) sound
   where
-    by : (s : DocumentState) → (s ≡ Open) ⊎ (s ≡ Closed) → more o m ≡ with_all o (unless_lost s (found_message e u related w n) ++ [])
+    by : (s : DocumentState) → (s ≡ Open) ⊎ (s ≡ Closed) → more o m ≡ with_all o (unless_lost s (found_message p w n) ++ [])
     by Open h = ap (more o) is
     by Lost h = absurd (elim h [ inl e ↦ cc | inr e ↦ cc ])
     by Closed h = ap (more o) is
@@ -169,10 +167,10 @@ pub beside_nothing : (ns : List (List ℕ)) → names_beside [] ns ≡ ns
 beside_nothing [] = refl
 beside_nothing (n ∷ ns) = ap (λ ms. n ∷ ms) (beside_nothing ns)
 
-pub first_beside_nothing : (e : Editor) (u : UnreadFiles) (related : Bool) (w : Workspace) (ns : List (List ℕ)) (old now : Outgoing) → SendsFirst (λ xs. messages_in e u related w (names_beside [] xs)) ns old now
-    → SendsFirst (messages_in e u related w) ns old now
-first_beside_nothing e u related w ns old now (first, rest, whole, sent) =
-    (first, rest, whole, sent ∙ ap (λ xs. with_all old (messages_in e u related w xs)) (beside_nothing first))
+pub first_beside_nothing : (p : Publisher) (w : Workspace) (ns : List (List ℕ)) (old now : Outgoing) → SendsFirst (λ xs. messages_in p w (names_beside [] xs)) ns old now
+    → SendsFirst (messages_in p w) ns old now
+first_beside_nothing p w ns old now (first, rest, whole, sent) =
+    (first, rest, whole, sent ∙ ap (λ xs. with_all old (messages_in p w xs)) (beside_nothing first))
 
 -- where the list that is reported is another, a name is among those of which it is
 pub is_other : {A : Type 0} (before now : List ℕ → List A) (names : List (List ℕ)) (n : List ℕ) → (is_among n names ≡ false → now n ≡ before n) → (now n ≡ before n → ⊥) → is_among n names ≡ true
@@ -208,7 +206,7 @@ part_none s w unpublished due old is same = record {
 -- some of those that were due were published
 pub part_due : (s : Server) (w : Workspace) (others due : Names) (old now : Outgoing) → names_of due ≡ due_of s →
     (IsKept s.workspace → AreOthers (names_of others) (reported_of_name s.workspace) (reported_of_name w)) →
-    SendsFirst (λ ns. messages_in s.editor s.unread s.client.related w (names_beside (names_of others) ns)) (names_of due) old now →
+    SendsFirst (λ ns. messages_in (publisher_of s) w (names_beside (names_of others) ns)) (names_of due) old now →
     ArePublishedInPart s (with_found s w others due) old now
 part_due s w others due old now is are (first, rest, whole, sent) = record {
   names = names_beside (names_of others) first;
@@ -220,20 +218,20 @@ part_due s w others due old now is are (first, rest, whole, sent) = record {
 
 -- in two parts
 joined : (s : Server) (w : Workspace) (old next now : Outgoing) (beside others : List (List ℕ)) →
-    next ≡ with_all old (messages_in s.editor s.unread s.client.related w beside) → now ≡ with_all next (messages_in s.editor s.unread s.client.related w others) →
-    now ≡ with_all old (messages_in s.editor s.unread s.client.related w (beside ++ others))
+    next ≡ with_all old (messages_in (publisher_of s) w beside) → now ≡ with_all next (messages_in (publisher_of s) w others) →
+    now ≡ with_all old (messages_in (publisher_of s) w (beside ++ others))
 joined s w old next now beside others more sent =
-    let messages = messages_in s.editor s.unread s.client.related w in
+    let messages = messages_in (publisher_of s) w in
     sent
     ∙ ap (λ o. with_all o (messages others)) more
     ∙ with_twice old (messages beside) (messages others)
-    ∙ ap (with_all old) (sym (messages_join s.editor s.unread s.client.related w beside others))
+    ∙ ap (with_all old) (sym (messages_join (publisher_of s) w beside others))
 
 -- .. all of them, and some of those of which something else is reported
 pub part_others : (s : Server) (w : Workspace) (others edited : Names) (old next now : Outgoing) →
     (IsKept s.workspace → AreOthers (names_of others) (reported_of_name s.workspace) (reported_of_name w)) →
-    next ≡ with_all old (messages_in s.editor s.unread s.client.related w (names_beside (names_of others) (due_of s))) →
-    SendsFirst (messages_in s.editor s.unread s.client.related w) (names_of others) next now →
+    next ≡ with_all old (messages_in (publisher_of s) w (names_beside (names_of others) (due_of s))) →
+    SendsFirst (messages_in (publisher_of s) w) (names_of others) next now →
     ArePublishedInPart s (with_found s w others edited) old now
 part_others s w others edited old next now are more (first, rest, whole, sent) =
     let beside = names_beside (names_of others) (due_of s) in
@@ -254,8 +252,8 @@ part_others s w others edited old next now are more (first, rest, whole, sent) =
 -- all
 pub published_whole : (s : Server) (w : Workspace) (others unpublished edited : Names) (old next now : Outgoing) →
     (IsKept s.workspace → IsSettled w) → (IsKept s.workspace → AreOthers (names_of others) (reported_of_name s.workspace) (reported_of_name w)) →
-    next ≡ with_all old (messages_in s.editor s.unread s.client.related w (names_beside (names_of others) (due_of s))) →
-    now ≡ with_all next (messages_in s.editor s.unread s.client.related w (names_of others)) → names_of unpublished ≡ [] → names_of edited ≡ [] →
+    next ≡ with_all old (messages_in (publisher_of s) w (names_beside (names_of others) (due_of s))) →
+    now ≡ with_all next (messages_in (publisher_of s) w (names_of others)) → names_of unpublished ≡ [] → names_of edited ≡ [] →
     ArePublished s (with_found s w unpublished edited) old now
 published_whole s w others unpublished edited old next now settled are more sent no_unreported no_edited = record {
   settled = settled;

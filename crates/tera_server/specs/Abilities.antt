@@ -54,16 +54,12 @@ abbrev pub abilities_json : Encoding → Json
 abilities_json e =
     object (member (codes "capabilities") (capabilities_json e) (member (codes "serverInfo") server_json no_members))
 
--- which files a client is asked to watch
+-- which files a client is asked to watch: all, as settings say how the names of templates end, and it may be a folder
 abbrev pub watcher_json : Json
-watcher_json = object (member (codes "globPattern") (string (codes "**/*.{html,htm,xml,tera}")) no_members)
-
--- .. and what comes and goes of any name, since it may be a folder: what is created (1) and deleted (4) is reported
-abbrev pub folder_watcher_json : Json
-folder_watcher_json = object (member (codes "globPattern") (string (codes "**/*")) (member (codes "kind") (number_json 5) no_members))
+watcher_json = object (member (codes "globPattern") (string (codes "**/*")) no_members)
 
 abbrev pub watchers_json : Json
-watchers_json = object (member (codes "watchers") (array (item watcher_json (item folder_watcher_json no_items))) no_members)
+watchers_json = object (member (codes "watchers") (array (item watcher_json no_items)) no_members)
 
 abbrev pub registration_json : Json
 registration_json =

@@ -1,5 +1,5 @@
 -- What is found in a document, as it is published.
-use Rattle.std.specs.Prelude.{ℕ, List, [], ◌++◌, Bool, if◌then◌else◌, codes, map, Option, None, Some}
+use Rattle.std.specs.Prelude.{ℕ, List, [], ◌++◌, Bool, if◌then◌else◌, codes, is_some, map, Option, None, Some, unwrap_or}
 use Rattle.std.specs.Option.{option_map, option_to_list}
 use Rattle.json.specs.Json.{Json, string, array, object, Members, no_members, member}
 use Rattle.json.specs.Token.{Token}
@@ -7,12 +7,14 @@ use Rattle.json.specs.Tree.{json_tokens}
 use Rattle.json.specs.Value.{items_of}
 use Rattle.json_rpc.specs.Writing.{notification}
 use Rattle.protocol_values.specs.Writing.{number_json, range_json, location_json, member_tokens}
-use Rattle.tera_check.specs.Findings.{kind_name, severity_of}
+use Rattle.tera_check.specs.Findings.{kind_name}
 use Rattle.tera_check.specs.declared.finding.Severity.{Severity}
 use Rattle.tera_check.specs.declared.finding.Severity.TheVariants.{Error, Warning}
 use Rattle.tera_workspace.specs.Diagnostics.{DiagnosticVal, RelatedVal}
 use Rattle.text_edits.specs.declared.positions.Position.{Position}
 use Rattle.tera_server.specs.Editors.{seen_of, uri_in, version_in}
+use Rattle.tera_server.specs.Settings.{Shown, is_shown}
+use Rattle.tera_server.specs.UnreadFiles.{ReasonVal}
 use Rattle.tera_server.specs.declared.editor.Editor.{Editor}
 
 -- what explains a finding
@@ -42,7 +44,7 @@ severity_number Warning = 2
 abbrev pub diagnostic_json : Editor → Bool → DiagnosticVal → Json
 diagnostic_json e reported d =
     object (member (codes "range") (range_json d.start d.end)
-    (member (codes "severity") (number_json (severity_number (severity_of d.kind)))
+    (member (codes "severity") (number_json (severity_number d.severity))
     (member (codes "code") (string (kind_name d.kind))
     (member (codes "source") (string (codes "tera"))
     (member (codes "message") (string d.message) (related_members e reported d.related))))))
@@ -60,33 +62,40 @@ abbrev pub version_tokens : Option ℕ → List Token
 version_tokens None = []
 version_tokens (Some n) = member_tokens (codes "version") (number_json n)
 
--- why a file cannot be read, at its beginning
-abbrev pub beginning : Position
-beginning = record { line = 0; character = 0 }
+-- why a file cannot be read, at its beginning; or what is wrong in a file of settings, at a line
+abbrev pub reason_place : ReasonVal → Position
+reason_place r = record { line = unwrap_or r.line 0; character = 0 }
 
-abbrev pub unread_json : List ℕ → Json
-unread_json why =
-    object (member (codes "range") (range_json beginning beginning)
+abbrev pub reason_code : ReasonVal → List ℕ
+reason_code r = if is_some r.line then codes "settings" else codes "unread"
+
+abbrev pub reason_json : ReasonVal → Json
+reason_json r =
+    object (member (codes "range") (range_json (reason_place r) (reason_place r))
     (member (codes "severity") (number_json (severity_number Error))
-    (member (codes "code") (string (codes "unread"))
+    (member (codes "code") (string (reason_code r))
     (member (codes "source") (string (codes "tera"))
-    (member (codes "message") (string why) no_members)))))
+    (member (codes "message") (string r.message) no_members)))))
 
 -- that, as it is written where it is so
-abbrev pub unread_tokens : Option (List ℕ) → List Token
-unread_tokens None = []
-unread_tokens (Some why) = json_tokens (unread_json why)
+abbrev pub reason_tokens : Option ReasonVal → List Token
+reason_tokens None = []
+reason_tokens (Some r) = json_tokens (reason_json r)
+
+-- a finding, as it is written unless its rule is off
+abbrev pub found_if_on : Editor → Bool → Shown → DiagnosticVal → List Token
+found_if_on e reported shown d = if is_shown shown d then one_found e reported d else []
 
 -- all that is published of a file: first why it cannot be read, if it cannot
-abbrev pub diagnostics_json : Editor → Bool → Option (List ℕ) → List DiagnosticVal → List Json
-diagnostics_json e reported why ds = option_to_list (option_map unread_json why) ++ map (diagnostic_json e reported) ds
+abbrev pub diagnostics_json : Editor → Bool → Option ReasonVal → List DiagnosticVal → List Json
+diagnostics_json e reported why ds = option_to_list (option_map reason_json why) ++ map (diagnostic_json e reported) ds
 
-abbrev pub found_json : Editor → Bool → List ℕ → Option (List ℕ) → List DiagnosticVal → Json
+abbrev pub found_json : Editor → Bool → List ℕ → Option ReasonVal → List DiagnosticVal → Json
 found_json e reported name why ds =
     object (member (codes "uri") (string (uri_in name (seen_of e name)))
     (with_version (version_in (seen_of e name))
     (member (codes "diagnostics") (array (items_of (diagnostics_json e reported why ds))) no_members)))
 
 -- the message that publishes what is found in the document of a name
-abbrev pub published : Editor → Bool → List ℕ → Option (List ℕ) → List DiagnosticVal → Json
+abbrev pub published : Editor → Bool → List ℕ → Option ReasonVal → List DiagnosticVal → Json
 published e reported name why ds = notification (codes "textDocument/publishDiagnostics") (found_json e reported name why ds)

@@ -1,6 +1,7 @@
 pub mod Abilities
 pub mod Clients
 pub mod Completions
+pub mod Configuring
 pub mod Definitions
 pub mod Editors
 pub mod Findings
@@ -14,6 +15,7 @@ pub mod References
 pub mod Requests
 pub mod SemanticTokens
 pub mod Sending
+pub mod Settings
 pub mod Settling
 pub mod States
 pub mod Steps

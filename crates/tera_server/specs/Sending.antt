@@ -3,15 +3,19 @@ use Rattle.std.specs.Prelude.{◌≡◌, ◌++◌, ℕ, List, [], ◌∷◌, Boo
 use Rattle.std.specs.List.{filter, flat_map}
 use Rattle.json_rpc.specs.Outgoing.{Outgoing}
 use Rattle.json_rpc.specs.Writing.{body}
+use Rattle.tera_workspace.specs.Diagnostics.{DiagnosticVal}
 use Rattle.tera_workspace.specs.Names.{is_among}
 use Rattle.tera_workspace.specs.Workspaces.{reported_of_name}
 use Rattle.tera_workspace.specs.declared.workspace.Workspace.{Workspace}
 use Rattle.tera_server.specs.Editors.{state_of}
 use Rattle.tera_server.specs.Findings.{published}
+use Rattle.tera_server.specs.Settings.{is_shown, reported_for}
 use Rattle.tera_server.specs.declared.editor.Editor.{Editor}
 use Rattle.tera_server.specs.declared.editor.DocumentState.{DocumentState}
 use Rattle.tera_server.specs.declared.editor.DocumentState.TheVariants.{Open, Lost, Closed}
+use Rattle.tera_server.specs.declared.findings.Publishing.{Publishing}
 use Rattle.tera_server.specs.declared.server.Server.{Server}
+use Rattle.tera_server.specs.declared.settings.Settings.{Settings}
 use Rattle.tera_server.specs.declared.unread.UnreadFiles.{UnreadFiles}
 use Rattle.tera_server.specs.UnreadFiles.{why_of}
 
@@ -19,9 +23,40 @@ use Rattle.tera_server.specs.UnreadFiles.{why_of}
 abbrev pub with_all : Outgoing → List (List ℕ) → Outgoing
 with_all o messages = record { sent = o.sent ++ messages; reserved = o.reserved }
 
--- what is published of the document of a name: why its file cannot be read, and what was reported for it last
-unfoldable pub found_message : Editor → UnreadFiles → Bool → Workspace → List ℕ → List ℕ
-found_message e unread related w n = body (published e related n (why_of unread n) (reported_of_name w n))
+-- by what is published: what the editor has, which files cannot be read, whether what explains a finding is reported, the
+-- settings, and the folders that are open
+pub record Publisher : Type 0 where
+  pub editor : Editor
+  pub unread : UnreadFiles
+  pub related : Bool
+  pub settings : Settings
+  pub folders : List (List ℕ)
+
+abbrev pub publisher : Publishing → Publisher
+publisher p = record {
+  editor = p.editor.now;
+  unread = p.unread.now;
+  related = p.related;
+  settings = p.settings.now;
+  folders = map string_bytes p.folders.now;
+}
+
+abbrev pub publisher_of : Server → Publisher
+publisher_of s = record {
+  editor = s.editor;
+  unread = s.unread;
+  related = s.client.related;
+  settings = s.settings;
+  folders = map string_bytes s.folders.items;
+}
+
+-- of what was reported for the document of a name last, what is on by the settings
+abbrev pub shown_of : Publisher → Workspace → List ℕ → List DiagnosticVal
+shown_of p w n = filter (is_shown (reported_for p.settings p.folders n)) (reported_of_name w n)
+
+-- what is published of the document of a name: why its file cannot be read, or is wrong, and that
+unfoldable pub found_message : Publisher → Workspace → List ℕ → List ℕ
+found_message p w n = body (published p.editor p.related n (why_of p.unread n) (shown_of p w n))
 
 -- .. unless the editor has it open with a text that is not known
 abbrev pub unless_lost : DocumentState → List ℕ → List (List ℕ)
@@ -30,11 +65,11 @@ unless_lost Lost message = []
 unless_lost Closed message = message ∷ []
 
 -- that of documents, in order
-abbrev pub messages_in : Editor → UnreadFiles → Bool → Workspace → List (List ℕ) → List (List ℕ)
-messages_in e unread related w ns = flat_map (λ n. unless_lost (state_of e n) (found_message e unread related w n)) ns
+abbrev pub messages_in : Publisher → Workspace → List (List ℕ) → List (List ℕ)
+messages_in p w ns = flat_map (λ n. unless_lost (state_of p.editor n) (found_message p w n)) ns
 
 abbrev pub messages_of : Server → List (List ℕ) → List (List ℕ)
-messages_of s ns = messages_in s.editor s.unread s.client.related s.workspace ns
+messages_of s ns = messages_in (publisher_of s) s.workspace ns
 
 -- the messages of the first ones of some documents were sent
 abbrev pub SendsFirst : (List (List ℕ) → List (List ℕ)) → List (List ℕ) → Outgoing → Outgoing → Type 0

@@ -15,7 +15,7 @@ use Rattle.tera_server.specs.declared.editor.DocumentState.TheVariants.{Open, Lo
 use Rattle.tera_server.specs.declared.notes.NeededKind.{NeededKind}
 use Rattle.tera_server.specs.declared.notes.NeededKind.TheVariants as kinds
 use Rattle.tera_server.specs.KnownFiles.{is_known}
-use Rattle.tera_server.specs.UnreadFiles.{why_of, IsWhyAt}
+use Rattle.tera_server.specs.UnreadFiles.{ReasonVal, is_same, unread, why_of, IsWhyAt}
 use Rattle.tera_server.specs.declared.server.OnDisk.{OnDisk}
 use Rattle.tera_server.specs.declared.server.OnDisk.TheVariants as on_disk
 use Rattle.tera_server.specs.declared.server.Server.{Server}
@@ -115,9 +115,9 @@ text_on (on_disk.Text text) = Some (string_bytes text)
 text_on (on_disk.Unread why) = None
 text_on on_disk.Nothing = None
 
-abbrev pub why_on : OnDisk → Option (List ℕ)
+abbrev pub why_on : OnDisk → Option ReasonVal
 why_on (on_disk.Text text) = None
-why_on (on_disk.Unread why) = Some (string_bytes why)
+why_on (on_disk.Unread why) = Some (unread (string_bytes why))
 why_on on_disk.Nothing = None
 
 abbrev pub is_there : OnDisk → Bool
@@ -127,11 +127,11 @@ is_there on_disk.Nothing = false
 
 -- the names of those that are published anyhow, when this is why a file cannot be read: where it is something else than
 -- before, the file is among them
-abbrev pub edited_by : List ℕ → Option (List ℕ) → Server → List (List ℕ)
-edited_by path why s = if option_eq bytes_eq (why_of s.unread path) why then edited_of s else with_name path (edited_of s)
+abbrev pub edited_by : List ℕ → Option ReasonVal → Server → List (List ℕ)
+edited_by path why s = if option_eq is_same (why_of s.unread path) why then edited_of s else with_name path (edited_of s)
 
 -- this text is on disk under a path, or none is; and this is why the file there cannot be read, or nothing is
-pub record IsLoadedAs (path : List ℕ) (text why : Option (List ℕ)) (s t : Server) : Type 0 where
+pub record IsLoadedAs (path : List ℕ) (text : Option (List ℕ)) (why : Option ReasonVal) (s t : Server) : Type 0 where
   pub documents : IsChangedAt path (loaded_as text) s.workspace.documents t.workspace.documents
   pub unread : IsWhyAt path why s.unread t.unread
   pub edited : edited_of t ≡ edited_by path why s
@@ -177,6 +177,7 @@ pub record StaysBut (s t : Server) : Type 0 where
   pub folders : t.folders ≡ s.folders
   pub known : t.known ≡ s.known
   pub unread : t.unread ≡ s.unread
+  pub settings : t.settings ≡ s.settings
   pub encoding : t.workspace.encoding ≡ s.workspace.encoding
   pub unpublished : t.unpublished ≡ s.unpublished
   pub reported : (n : List ℕ) → reported_of_name t.workspace n ≡ reported_of_name s.workspace n

@@ -1,11 +1,11 @@
 //! What the server can do, as it reports to a client.
 
-ghost use Rattle.std.specs.Prelude.{◌≡◌, ◌++◌, OnOk};
-ghost use Rattle.json.specs.Tree.{json_tokens};
+ghost use Rattle.json_members.specs.Written.{PutsJson};
 ghost use Rattle.tera_server.specs.Abilities.{abilities_json, registrations_json};
 
 use json::{Token, Writer};
-use protocol_values::{encoding_name, put_number, put_tokens};
+use json_members::{put_number, put_tokens};
+use protocol_values::encoding_name;
 use std::alloc::AllocError;
 use text_edits::Encoding;
 
@@ -14,8 +14,7 @@ pub const VERSION: &str = "0.1.0";
 
 /// Writes the result of `initialize`.
 pub(crate) fn put_abilities(out: &mut Writer, encoding: Encoding) -> Result<(), AllocError>
-    ensures tokens { OnOk result (out.new.tokens ≡ out.old.tokens ++ json_tokens (abilities_json encoding)) }
-    ensures before { out.new.before ≡ out.old.before }
+    ensures { PutsJson result out.old out.new (abilities_json encoding) }
 {
     // Texts are reported when they are opened and closed, and their changes by parts.
     put_tokens(
@@ -110,19 +109,15 @@ const AFTER_THE_CHANGES: [Token<'static>; 68] = [
     Token::EndObject,
 ];
 
-/// Writes the parameters by which a client is asked to watch the files of templates and folders.
+/// Writes the parameters by which a client is asked to watch files and folders.
 pub(crate) fn put_registrations(out: &mut Writer) -> Result<(), AllocError>
-    ensures tokens { OnOk result (out.new.tokens ≡ out.old.tokens ++ json_tokens registrations_json) }
-    ensures before { out.new.before ≡ out.old.before }
+    ensures { PutsJson result out.old out.new registrations_json }
 {
-    put_tokens(out, &WATCHERS)?;
-    // Created and deleted.
-    put_number(out, "kind", 5)?;
-    put_tokens(out, &AFTER_THE_WATCHERS)
+    put_tokens(out, &REGISTRATIONS)
 }
 
-// Of the files of templates, and of whatever may be a folder.
-const WATCHERS: [Token<'static>; 19] = [
+// Of whatever file: settings say how the names of templates end, and it may be a folder.
+const REGISTRATIONS: [Token<'static>; 21] = [
     Token::BeginObject,
     Token::Key("registrations"),
     Token::BeginArray,
@@ -137,14 +132,7 @@ const WATCHERS: [Token<'static>; 19] = [
     Token::BeginArray,
     Token::BeginObject,
     Token::Key("globPattern"),
-    Token::String("**/*.{html,htm,xml,tera}"),
-    Token::EndObject,
-    Token::BeginObject,
-    Token::Key("globPattern"),
     Token::String("**/*"),
-];
-
-const AFTER_THE_WATCHERS: [Token<'static>; 6] = [
     Token::EndObject,
     Token::EndArray,
     Token::EndObject,

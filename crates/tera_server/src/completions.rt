@@ -6,6 +6,7 @@ ghost use Rattle.std.specs.Option.{option_map_or};
 ghost use Rattle.json.specs.Json.{Json, array};
 ghost use Rattle.json.specs.Tree.{json_tokens};
 ghost use Rattle.json.specs.Value.{items_of};
+ghost use Rattle.json_members.specs.Written.{Puts, PutsJson};
 ghost use Rattle.tera_outline.specs.Names.{names_of, name_view, holds};
 ghost use Rattle.tera_outline.specs.Pieces.{part_of};
 ghost use Rattle.tera_tree.specs.Calls.{texts, once_each};
@@ -15,7 +16,8 @@ ghost use Rattle.tera_server.specs.Templates.{template_name};
 
 use crate::templates::template_name;
 use json::{Token, Writer};
-use protocol_values::{put_edit, put_number, put_tokens};
+use json_members::{put_number, put_tokens};
+use protocol_values::put_edit;
 use std::alloc::{AllocError, Global};
 use std::collections::BTreeSet;
 use tera_lexer::words::STATEMENTS;
@@ -75,10 +77,10 @@ fn put_offered(
     place: Place,
     pieces: &[Piece<'_>],
 ) -> Result<(), AllocError>
-    ensures tokens { OnOk result (out.new.tokens ≡ out.old.tokens ++ json_tokens (items_json place.start place.end
-        (kind_number place.kind) (offered offering.entry.workspace.now (map string_bytes offering.entry.folders.now.items)
-        (names_of (map part_of pieces.now)) place.kind))) }
-    ensures before { out.new.before ≡ out.old.before }
+    ensures { PutsJson result out.old out.new
+        (items_json place.start place.end (kind_number place.kind)
+        (offered offering.entry.workspace.now (map string_bytes offering.entry.folders.now.items)
+        (names_of (map part_of pieces.now)) place.kind)) }
 {
     let named = names_of(alloc, pieces)?;
     let names = offered(alloc, offering, named.as_slice(), place.kind)?;
@@ -173,9 +175,9 @@ fn once_each<'n>(alloc: Global, names: &[&'n str]) -> Result<BTreeSet<&'n str>, 
 }
 
 fn put_items(out: &mut Writer, place: Place, names: &BTreeSet<&str>) -> Result<(), AllocError>
-    ensures tokens { OnOk result (out.new.tokens ≡ out.old.tokens ++ json_tokens (array (items_of
-        (map (item_json place.start place.end (kind_number place.kind)) (texts names.now.keys))))) }
-    ensures before { out.new.before ≡ out.old.before }
+    ensures { PutsJson result out.old out.new
+        (array (items_of (map (item_json place.start place.end (kind_number place.kind))
+        (texts names.now.keys)))) }
 {
     out.begin_array()?;
     for name in names {
@@ -185,9 +187,8 @@ fn put_items(out: &mut Writer, place: Place, names: &BTreeSet<&str>) -> Result<(
 }
 
 fn put_item(out: &mut Writer, place: Place, name: &str) -> Result<(), AllocError>
-    ensures tokens { OnOk result (out.new.tokens ≡ out.old.tokens
-        ++ item_tokens place.start place.end (kind_number place.kind) name.now) }
-    ensures before { out.new.before ≡ out.old.before }
+    ensures { Puts result out.old out.new
+        (item_tokens place.start place.end (kind_number place.kind) name.now) }
 {
     put_tokens(
         out,

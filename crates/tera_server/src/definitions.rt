@@ -1,8 +1,8 @@
 //! Where what is named in a text is defined.
 
-ghost use Rattle.std.specs.Prelude.{◌≡◌, ◌++◌, map, string_bytes, IfOk, OnOk};
+ghost use Rattle.std.specs.Prelude.{◌≡◌, map, string_bytes, IfOk};
 ghost use Rattle.std.specs.Option.{option_map};
-ghost use Rattle.json.specs.Tree.{json_tokens};
+ghost use Rattle.json_members.specs.Written.{PutsJson};
 ghost use Rattle.tera_outline.specs.Names.{name_view};
 ghost use Rattle.tera_workspace.specs.Definitions.{definition_view};
 ghost use Rattle.tera_server.specs.Definitions.{IsNamedAt, is_component, template_place, place_of, place_json};
@@ -41,10 +41,9 @@ pub(crate) fn put_definition(
     editor: &Editor,
     name: &Option<Name>,
 ) -> Result<(), AllocError>
-    ensures tokens { OnOk result (out.new.tokens ≡ out.old.tokens ++ json_tokens (place_json editor.now
-        (place_of offering.entry.workspace.now (map string_bytes offering.entry.folders.now.items)
-        (option_map name_view name.now)))) }
-    ensures before { out.new.before ≡ out.old.before }
+    ensures { PutsJson result out.old out.new
+        (place_json editor.now (place_of offering.entry.workspace.now
+        (map string_bytes offering.entry.folders.now.items) (option_map name_view name.now))) }
 {
     match place_of(alloc, offering, name)? {
         Some(place) => {

@@ -1,21 +1,25 @@
 //! What is found in a document, as it is published.
 
-ghost use Rattle.std.specs.Prelude.{◌≡◌, ◌++◌, ◌∷◌, [], map, string_bytes, IfOk, OnOk, OnErr};
+ghost use Rattle.std.specs.Prelude.{◌≡◌, ◌∷◌, [], map, string_bytes, IfOk, OnOk, OnErr};
+ghost use Rattle.std.specs.List.{filter};
 ghost use Rattle.std.specs.Option.{option_map};
-ghost use Rattle.json.specs.Tree.{json_tokens};
+ghost use Rattle.json_members.specs.Written.{Puts, PutsJson};
 ghost use Rattle.tera_workspace.specs.Diagnostics.{diagnostic_view, related_view};
 ghost use Rattle.tera_server.specs.Editors.{seen_of, uri_in, version_in};
-ghost use Rattle.tera_server.specs.Findings.{one_related, related_tokens, severity_number, one_found, found_json, unread_tokens, version_tokens};
-ghost use Rattle.tera_server.specs.Sending.{with_all, messages_in, SendsFirst, names_beside};
-ghost use Rattle.tera_server.specs.UnreadFiles.{why_of};
+ghost use Rattle.tera_server.specs.Findings.{one_related, related_tokens, severity_number, one_found, found_if_on, found_json, reason_code, reason_tokens, version_tokens};
+ghost use Rattle.tera_server.specs.Sending.{with_all, messages_in, publisher, SendsFirst, names_beside};
+ghost use Rattle.tera_server.specs.Settings.{is_shown, reported_for, reported_view};
+ghost use Rattle.tera_server.specs.UnreadFiles.{reason_view, why_of};
 
 use crate::editor::{DocumentState, Editor};
 use crate::notes::has_name;
-use crate::unread::UnreadFiles;
+use crate::settings::{Reported, Settings};
+use crate::unread::{Reason, UnreadFiles};
 use file_uris::uri_of;
 use json::{Token, Writer};
+use json_members::{put_number, put_tokens};
 use json_rpc::{Outbox, begin_notification, end_message};
-use protocol_values::{put_location, put_number, put_range, put_tokens};
+use protocol_values::{put_location, put_range};
 use std::alloc::{AllocError, Global};
 use tera_check::Severity;
 use tera_workspace::{Diagnostic, Related, Workspace};
@@ -29,12 +33,10 @@ pub(crate) struct Publishing<'e> {
     pub(crate) unread: &'e UnreadFiles,
     /// Whether what explains a finding is reported beside it.
     pub(crate) related: bool,
+    /// Which rules are off, by the folders that are open.
+    pub(crate) settings: &'e Settings,
+    pub(crate) folders: &'e [String],
 }
-
-const BEGINNING: Position = Position {
-    line: 0,
-    character: 0,
-};
 
 /// Publishes what was reported last of the documents of these names, but not of the others among them. Where the editor
 /// has one open with a text that is not known, nothing is published of it.
@@ -46,11 +48,9 @@ pub(crate) fn publish_each(
     others: &[String],
     out: &mut Outbox,
 ) -> Result<(), AllocError>
-    ensures published { OnOk result (out.new ≡ with_all out.old (messages_in publishing.entry.editor.now
-        publishing.entry.unread.now publishing.entry.related workspace.now
+    ensures published { OnOk result (out.new ≡ with_all out.old (messages_in (publisher publishing.entry) workspace.now
         (names_beside (map string_bytes others.now) (map string_bytes names.now)))) }
-    ensures in_part { OnErr result (SendsFirst (λ ns. messages_in publishing.entry.editor.now
-        publishing.entry.unread.now publishing.entry.related workspace.now
+    ensures in_part { OnErr result (SendsFirst (λ ns. messages_in (publisher publishing.entry) workspace.now
         (names_beside (map string_bytes others.now) ns)) (map string_bytes names.now) out.old out.new) }
 {
     for name in names {
@@ -69,8 +69,7 @@ fn publish(
     out: &mut Outbox,
 ) -> Result<(), AllocError>
     ensures published { OnOk result (out.new ≡ with_all out.old
-        (messages_in publishing.entry.editor.now publishing.entry.unread.now publishing.entry.related workspace.now
-        (name.now ∷ []))) }
+        (messages_in (publisher publishing.entry) workspace.now (name.now ∷ []))) }
     ensures err { OnErr result (out.new ≡ out.old) }
 {
     match publishing.editor.state(name) {
@@ -96,10 +95,11 @@ fn put_published(
     name: &str,
     found: &[Diagnostic],
 ) -> Result<(), AllocError>
-    ensures tokens { OnOk result (out.new.tokens ≡ out.old.tokens
-        ++ json_tokens (found_json publishing.entry.editor.now publishing.entry.related name.now
-        (why_of publishing.entry.unread.now name.now) (map diagnostic_view found.now))) }
-    ensures before { out.new.before ≡ out.old.before }
+    ensures { PutsJson result out.old out.new
+        (found_json publishing.entry.editor.now publishing.entry.related name.now
+        (why_of publishing.entry.unread.now name.now)
+        (filter (is_shown (reported_for publishing.entry.settings.now
+        (map string_bytes publishing.entry.folders.now) name.now)) (map diagnostic_view found.now))) }
 {
     let uri = uri_by(alloc, publishing.editor, name)?;
     put_tokens(
@@ -112,9 +112,10 @@ fn put_published(
     )?;
     put_version(out, publishing.editor, name)?;
     put_tokens(out, &[Token::Key("diagnostics"), Token::BeginArray])?;
-    put_unread(out, publishing.unread.of(name))?;
+    put_reason(out, publishing.unread.of(name))?;
+    let reported = publishing.settings.reported(publishing.folders, name);
     for diagnostic in found {
-        put_diagnostic(alloc, out, publishing, diagnostic)?;
+        put_if_on(alloc, out, publishing, reported, diagnostic)?;
     }
     put_tokens(out, &[Token::EndArray, Token::EndObject])
 }
@@ -130,9 +131,8 @@ pub(crate) fn uri_by(alloc: Global, editor: &Editor, name: &str) -> Result<Strin
 }
 
 fn put_version(out: &mut Writer, editor: &Editor, name: &str) -> Result<(), AllocError>
-    ensures tokens { OnOk result (out.new.tokens
-        ≡ out.old.tokens ++ version_tokens (version_in (seen_of editor.now name.now))) }
-    ensures before { out.new.before ≡ out.old.before }
+    ensures { Puts result out.old out.new
+        (version_tokens (version_in (seen_of editor.now name.now))) }
 {
     if let Some(seen) = editor.of(name) {
         if let Some(version) = seen.version {
@@ -143,30 +143,62 @@ fn put_version(out: &mut Writer, editor: &Editor, name: &str) -> Result<(), Allo
     Ok(())
 }
 
-// Why the file cannot be read, if it cannot.
-fn put_unread(out: &mut Writer, why: Option<&str>) -> Result<(), AllocError>
-    ensures tokens { OnOk result (out.new.tokens
-        ≡ out.old.tokens ++ unread_tokens (option_map (λ t. t.now) why.entry)) }
-    ensures before { out.new.before ≡ out.old.before }
+// Why the file cannot be read, or what is wrong in it, if anything is.
+fn put_reason(out: &mut Writer, why: Option<&Reason>) -> Result<(), AllocError>
+    ensures { Puts result out.old out.new
+        (reason_tokens (option_map (λ r. reason_view r.now) why.entry)) }
 {
     let Some(why) = why else {
         return Ok(());
     };
+    let at = Position {
+        line: why.line.unwrap_or(0),
+        character: 0,
+    };
     out.begin_object()?;
-    put_range(out, "range", BEGINNING, BEGINNING)?;
+    put_range(out, "range", at, at)?;
     put_number(out, "severity", severity_number(Severity::Error))?;
     put_tokens(
         out,
         &[
             Token::Key("code"),
-            Token::String("unread"),
+            Token::String(reason_code(why)),
             Token::Key("source"),
             Token::String("tera"),
             Token::Key("message"),
-            Token::String(why),
+            Token::String(why.message.as_str()),
             Token::EndObject,
         ],
     )
+}
+
+// The code of what is published in a file that cannot be read, or of settings that are wrong.
+fn reason_code(why: &Reason) -> &'static str
+    ensures { result.now ≡ reason_code (reason_view why.now) }
+{
+    match why.line {
+        Some(_) => "settings",
+        None => "unread",
+    }
+}
+
+// The finding, if it is reported.
+fn put_if_on(
+    alloc: Global,
+    out: &mut Writer,
+    publishing: Publishing<'_>,
+    reported: Reported<'_>,
+    diagnostic: &Diagnostic,
+) -> Result<(), AllocError>
+    ensures { Puts result out.old out.new
+        (found_if_on publishing.entry.editor.now publishing.entry.related
+        (reported_view reported.entry) (diagnostic_view diagnostic.now)) }
+{
+    if reported.has(diagnostic.kind) {
+        put_diagnostic(alloc, out, publishing, diagnostic)
+    } else {
+        Ok(())
+    }
 }
 
 fn put_diagnostic(
@@ -175,13 +207,13 @@ fn put_diagnostic(
     publishing: Publishing<'_>,
     diagnostic: &Diagnostic,
 ) -> Result<(), AllocError>
-    ensures tokens { OnOk result (out.new.tokens ≡ out.old.tokens
-        ++ one_found publishing.entry.editor.now publishing.entry.related (diagnostic_view diagnostic.now)) }
-    ensures before { out.new.before ≡ out.old.before }
+    ensures { Puts result out.old out.new
+        (one_found publishing.entry.editor.now publishing.entry.related
+        (diagnostic_view diagnostic.now)) }
 {
     out.begin_object()?;
     put_range(out, "range", diagnostic.start, diagnostic.end)?;
-    put_number(out, "severity", severity_number(diagnostic.kind.severity()))?;
+    put_number(out, "severity", severity_number(diagnostic.severity))?;
     put_tokens(
         out,
         &[
@@ -214,9 +246,9 @@ fn put_related(
     publishing: Publishing<'_>,
     related: &[Related],
 ) -> Result<(), AllocError>
-    ensures tokens { OnOk result (out.new.tokens ≡ out.old.tokens
-        ++ related_tokens publishing.entry.editor.now publishing.entry.related (map related_view related.now)) }
-    ensures before { out.new.before ≡ out.old.before }
+    ensures { Puts result out.old out.new
+        (related_tokens publishing.entry.editor.now publishing.entry.related
+        (map related_view related.now)) }
 {
     if !publishing.related {
         return Ok(());
@@ -234,9 +266,7 @@ fn put_one(
     editor: &Editor,
     one: &Related,
 ) -> Result<(), AllocError>
-    ensures tokens { OnOk result (out.new.tokens
-        ≡ out.old.tokens ++ one_related editor.now (related_view one.now)) }
-    ensures before { out.new.before ≡ out.old.before }
+    ensures { Puts result out.old out.new (one_related editor.now (related_view one.now)) }
 {
     let uri = uri_by(alloc, editor, one.file.as_str())?;
     put_tokens(out, &[Token::BeginObject, Token::Key("location")])?;

@@ -8,7 +8,7 @@ ghost use Rattle.tera_server.specs.Hovers.{IsHead, IsHeadBy, hover_json};
 
 use crate::definitions::is_component;
 use json::{Token, Writer};
-use protocol_values::put_tokens;
+use json_members::put_tokens;
 use std::alloc::{AllocError, Global};
 use tera_outline::{Name, head_of};
 use tera_workspace::Workspace;

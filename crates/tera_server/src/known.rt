@@ -45,6 +45,17 @@ impl KnownFiles {
         self.names.remove(name);
     }
 
+    /// The names of all.
+    pub(crate) fn all(&self, alloc: Global) -> Result<Vec<String>, AllocError>
+        ensures { IfOk result (λ v. map string_bytes v.items ≡ known_names self.now) }
+    {
+        let mut names = Vec::new(alloc);
+        for name in &self.names {
+            names.push(name.clone()?)?;
+        }
+        Ok(names)
+    }
+
     /// The names of those in the folder, at any depth.
     pub(crate) fn inside(&self, alloc: Global, folder: &str) -> Result<Vec<String>, AllocError>
         ensures { IfOk result (λ v. map string_bytes v.items ≡ filter (is_inside folder.now) (known_names self.now)) }

@@ -7,14 +7,15 @@
 //!
 //! In the order of reading: specs `States`, `Requests`, `Notes`, `Steps`, `Settling`; `server`, and `requests` and
 //! `notes`, which a message may be; `client` and `editor`, what is known of them; `known` and `unread`, files that are
-//! there, or cannot be read; `templates`, which files have which names; `abilities`, `layouts`, `symbols`,
-//! `definitions`, `hovers`, `references`, `completions` and `semantic_tokens`, which write results; `findings`, which
-//! publishes what is found; `laws`.
+//! there, or cannot be read; `templates`, which files have which names; `settings` and `configuring`, by folders;
+//! `abilities`, `layouts`, `symbols`, `definitions`, `hovers`, `references`, `completions` and `semantic_tokens`, which
+//! write results; `findings`, which publishes what is found; `laws`.
 #![tactic(auto)]
 
 mod abilities;
 mod client;
 mod completions;
+mod configuring;
 mod definitions;
 mod editor;
 mod findings;
@@ -27,9 +28,13 @@ mod references;
 mod requests;
 mod semantic_tokens;
 mod server;
+mod settings;
 mod symbols;
 mod templates;
 mod unread;
 
 pub use abilities::VERSION;
+pub use configuring::FoundSettings;
 pub use server::{Ended, Needed, OnDisk, Server};
+pub use settings::FolderSettings;
+pub use unread::Reason;

@@ -381,8 +381,8 @@ pub(crate) fn push_name(
     Ok(())
 }
 
-// Asks for what has these names.
-fn need_all(
+/// Asks for what has these names.
+pub(crate) fn need_all(
     alloc: Global,
     kind: NeededKind,
     names: &[String],
@@ -420,7 +420,7 @@ fn need(
     }
 }
 
-// Asks the client to watch the files of templates.
+// Asks the client to watch files and folders.
 fn ask_to_watch(alloc: Global, out: &mut Outbox) -> Result<(), AllocError>
     ensures sent { OnOk result (out.new ≡ more out.old
         (body (request (TextId (codes "watch")) (codes "client/registerCapability") registrations_json))) }

@@ -4,6 +4,7 @@ ghost use Rattle.std.specs.Prelude.{◌≡◌, ◌++◌, List, map, OnOk};
 ghost use Rattle.std.specs.List.{flat_map};
 ghost use Rattle.json.specs.Json.{Json};
 ghost use Rattle.json.specs.Tree.{json_tokens};
+ghost use Rattle.json_members.specs.Written.{Puts};
 ghost use Rattle.tera_outline.specs.Names.{name_view};
 ghost use Rattle.tera_workspace.specs.Definitions.{text_view};
 ghost use Rattle.text_edits.specs.Places.{AreLinesOf};
@@ -77,9 +78,9 @@ fn put_names(
 ) -> Result<(), AllocError>
     requires lines { AreLinesOf text.text.now lines.now }
     requires uri { uri.now ≡ uri_in text.file.now (seen_of search.editor.now text.file.now) }
-    ensures tokens { OnOk result (out.new.tokens ≡ out.old.tokens
-        ++ flat_map (reference_tokens (looked_for_by search.entry) (text_view text.entry)) (map name_view names.now)) }
-    ensures before { out.new.before ≡ out.old.before }
+    ensures { Puts result out.old out.new
+        (flat_map (reference_tokens (looked_for_by search.entry) (text_view text.entry))
+        (map name_view names.now)) }
 {
     for name in names {
         if refers(search, name) {

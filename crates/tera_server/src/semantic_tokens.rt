@@ -4,6 +4,7 @@ ghost use Rattle.std.specs.Prelude.{◌≡◌, ◌≤◌, ◌++◌, OnOk};
 ghost use Rattle.std.specs.List.{flat_map};
 ghost use Rattle.json.specs.Json.{Json};
 ghost use Rattle.json.specs.Tree.{json_tokens};
+ghost use Rattle.json_members.specs.Written.{Puts};
 ghost use Rattle.tera_outline.specs.SemanticTokens.{IsOnLine, AreOnLines};
 ghost use Rattle.text_edits.specs.Laws.{IsUpTo};
 ghost use Rattle.text_edits.specs.Positions.{boundary_to};
@@ -12,7 +13,7 @@ ghost use Rattle.tera_server.specs.SemanticTokens as specs;
 ghost use Rattle.tera_server.specs.SemanticTokens.{AreTokens, data_of, numbers, number_tokens};
 
 use json::{Token, Writer};
-use protocol_values::put_tokens;
+use json_members::put_tokens;
 use std::alloc::{AllocError, Global};
 use tera_outline::{SemanticKind, SemanticToken, semantic_tokens_of};
 use text_edits::{Encoding, Position, Walk};
@@ -44,9 +45,8 @@ fn put_data(
     tokens: &[SemanticToken],
 ) -> Result<(), AllocError>
     requires { AreOnLines 0 text.now tokens.now }
-    ensures tokens { OnOk result (out.new.tokens
-        ≡ out.old.tokens ++ flat_map number_tokens (data_of encoding text.now tokens.now)) }
-    ensures before { out.new.before ≡ out.old.before }
+    ensures { Puts result out.old out.new
+        (flat_map number_tokens (data_of encoding text.now tokens.now)) }
 {
     let mut walk = Walk::first();
     let mut last = walk.position;
@@ -89,9 +89,7 @@ fn place(encoding: Encoding, text: &str, walk: Walk, token: SemanticToken) -> (P
 // Writes the five numbers of a token after one that begins at the position.
 fn put_placed(out: &mut Writer, last: Position, placed: Placed) -> Result<(), AllocError>
     requires { IsUpTo last placed.start }
-    ensures tokens { OnOk result (out.new.tokens
-        ≡ out.old.tokens ++ flat_map number_tokens (numbers last placed)) }
-    ensures before { out.new.before ≡ out.old.before }
+    ensures { Puts result out.old out.new (flat_map number_tokens (numbers last placed)) }
 {
     put_numbers(
         out,
@@ -119,8 +117,7 @@ fn distance(last: Position, position: Position) -> usize
 
 #[tactic(auto, unfolding(crate::specs::SemanticTokens::number_tokens))]
 fn put_numbers(out: &mut Writer, numbers: &[usize]) -> Result<(), AllocError>
-    ensures tokens { OnOk result (out.new.tokens ≡ out.old.tokens ++ flat_map number_tokens numbers.now) }
-    ensures before { out.new.before ≡ out.old.before }
+    ensures { Puts result out.old out.new (flat_map number_tokens numbers.now) }
 {
     for number in numbers {
         out.u64(*number as u64)?;

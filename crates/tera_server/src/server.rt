@@ -17,7 +17,8 @@ ghost use Rattle.tera_server.specs.States.{IsMissed, IsLoadedAs, IsNotLoaded, kn
 ghost use Rattle.tera_server.specs.Steps.{ended_at, Step, IsRefused, IsUntaken, IsUntakenBy, KeepsUp};
 ghost use Rattle.tera_server.specs.KnownFiles.{is_known, known_names, IsKnownAs};
 ghost use Rattle.tera_server.specs.Templates.{is_inside};
-ghost use Rattle.tera_server.specs.UnreadFiles.{why_of, IsWhyAt};
+ghost use Rattle.tera_server.specs.Settings.{settings_in};
+ghost use Rattle.tera_server.specs.UnreadFiles.{reason_view, why_of, IsWhyAt};
 ghost use Rattle.tera_server.specs.declared.server.Phase.TheVariants.{New};
 
 use crate::client::Client;
@@ -26,7 +27,8 @@ use crate::findings::{Publishing, publish_each};
 use crate::known::KnownFiles;
 use crate::notes::{Noted, add_name};
 use crate::requests::Asked;
-use crate::unread::UnreadFiles;
+use crate::settings::Settings;
+use crate::unread::{Reason, UnreadFiles};
 use json::Scratch;
 use json_rpc::{Code, Id, Incoming, Message, Outbox, id_to_answer};
 use std::alloc::{AllocError, Global};
@@ -81,13 +83,15 @@ pub struct Server {
     pub(crate) folders: Vec<String>,
     // The files that were given, and those of them that cannot be read.
     known: KnownFiles,
-    unread: UnreadFiles,
+    pub(crate) unread: UnreadFiles,
+    // Those that count for the folders.
+    pub(crate) settings: Settings,
     pub(crate) needed: Vec<Needed>,
     // The names of the documents whose findings are to be published, whatever they are: the editor opened, changed or closed
     // them, their files cannot be read or can again, or they were not published in time.
     pub(crate) edited: Vec<String>,
-    // The names of those whose findings are others than were published.
-    unpublished: Vec<String>,
+    // The names of those whose findings are others than were published, or may be by other settings.
+    pub(crate) unpublished: Vec<String>,
 }
 
 impl Server {
@@ -99,6 +103,7 @@ impl Server {
         ensures kept { IsKept result.workspace }
         ensures none { (needed_of result ≡ []) × (edited_of result ≡ []) × (unpublished_of result ≡ [])
             × ((n : List ℕ) → why_of result.unread n ≡ None) × ((n : List ℕ) → is_known result.known n ≡ false) }
+        ensures settings { (f : List ℕ) → settings_in result.settings f ≡ None }
     {
         Server {
             phase: Phase::New,
@@ -108,6 +113,7 @@ impl Server {
             folders: Vec::new(alloc),
             known: KnownFiles::new(alloc),
             unread: UnreadFiles::new(alloc),
+            settings: Settings::new(alloc),
             needed: Vec::new(alloc),
             edited: Vec::new(alloc),
             unpublished: Vec::new(alloc),
@@ -288,7 +294,7 @@ impl Server {
             }
             OnDisk::Unread(why) => {
                 self.known.add(alloc, path)?;
-                self.unload(alloc, path, Some(why))
+                self.unload(alloc, path, Some(Reason::unread(why)))
             }
             OnDisk::Nothing => {
                 self.unload(alloc, path, None)?;
@@ -305,6 +311,13 @@ impl Server {
         self.known.has(path)
     }
 
+    /// The paths of all files that there were when they were given last.
+    pub fn known(&self, alloc: Global) -> Result<Vec<String>, AllocError>
+        ensures { IfOk result (λ v. map string_bytes v.items ≡ known_names self.now.known) }
+    {
+        self.known.all(alloc)
+    }
+
     /// The paths of the files in this folder, at any depth, that there were when they were given last.
     pub fn known_inside(&self, alloc: Global, folder: &str) -> Result<Vec<String>, AllocError>
         ensures { IfOk result (λ v. map string_bytes v.items
@@ -314,28 +327,34 @@ impl Server {
     }
 
     // No text is on disk, where this is why the file cannot be read, or nothing is.
-    fn unload(&mut self, alloc: Global, path: &str, why: Option<String>) -> Result<(), AllocError>
+    fn unload(&mut self, alloc: Global, path: &str, why: Option<Reason>) -> Result<(), AllocError>
         ensures stays { KeepsReported self.old self.new }
         ensures same { self.new ≡ record self.old
             { workspace = self.new.workspace; unread = self.new.unread; edited = self.new.edited } }
-        ensures loaded { OnOk result (IsLoadedAs path.now None (option_map string_bytes why) self.old self.new) }
+        ensures loaded { OnOk result (IsLoadedAs path.now None (option_map reason_view why) self.old self.new) }
         ensures err { OnErr result (IsNotLoaded path.now self.old self.new) }
     {
         self.set_why(alloc, path, why)?;
         self.workspace.remove_file(alloc, path)
     }
 
-    // This is why the file cannot be read, or nothing is. Where that is something else than before, it is published.
-    fn set_why(&mut self, alloc: Global, path: &str, why: Option<String>) -> Result<(), AllocError>
+    // This is why the file cannot be read, or is wrong, or nothing is. Where that is something else than before, it is
+    // published.
+    pub(crate) fn set_why(
+        &mut self,
+        alloc: Global,
+        path: &str,
+        why: Option<Reason>,
+    ) -> Result<(), AllocError>
         ensures same { self.new ≡ record self.old { unread = self.new.unread; edited = self.new.edited } }
-        ensures set { OnOk result (IsWhyAt path.now (option_map string_bytes why) self.old.unread self.new.unread) }
+        ensures set { OnOk result (IsWhyAt path.now (option_map reason_view why) self.old.unread self.new.unread) }
         ensures edited { OnOk result (edited_of self.new
-            ≡ edited_by path.now (option_map string_bytes why) self.old) }
+            ≡ edited_by path.now (option_map reason_view why) self.old) }
         ensures unset { OnErr result ((n : List ℕ) → why_of self.new.unread n ≡ why_of self.old.unread n) }
         ensures unedited { OnErr result ((edited_of self.new ≡ edited_of self.old)
             ⊎ (edited_of self.new ≡ with_name path.now (edited_of self.old))) }
     {
-        if self.unread.is(path, why.as_deref()) {
+        if self.unread.is(path, &why) {
             return Ok(());
         }
         add_name(alloc, path, &mut self.edited)?;
@@ -355,10 +374,13 @@ impl Server {
         // What is not published yet is published by what is reported now.
         self.edited.append(&mut self.unpublished)?;
         self.unpublished = self.workspace.settle(alloc)?;
+        let folders = self.folders.as_slice();
         let publishing = Publishing {
             editor: &self.editor,
             unread: &self.unread,
             related: self.client.related,
+            settings: &self.settings,
+            folders,
         };
         // Of those that are not published yet it is published after.
         let unpublished = self.unpublished.as_slice();

@@ -1,9 +1,9 @@
 //! The outline of a text: its blocks and the definitions of its components.
 
-ghost use Rattle.std.specs.Prelude.{◌≡◌, ◌++◌, ◌∷◌, [], map, reverse, OnOk};
+ghost use Rattle.std.specs.Prelude.{◌≡◌, ◌++◌, map, reverse, OnOk};
 ghost use Rattle.json.specs.Json.{Json};
-ghost use Rattle.json.specs.Token.{end_array, end_object};
 ghost use Rattle.json.specs.Tree.{json_tokens, items_tokens};
+ghost use Rattle.json_members.specs.Written.{Puts};
 ghost use Rattle.tera_outline.specs.Symbols.{outlined};
 ghost use Rattle.text_edits.specs.Places.{AreLinesOf};
 ghost use Rattle.protocol_values.specs.Writing.{member_tokens, range_json};
@@ -11,7 +11,8 @@ ghost use Rattle.tera_server.specs.Positions.{position_at};
 ghost use Rattle.tera_server.specs.Outlines.{IsOutline, nested, symbol_items, symbol_begin, end_tokens, open_at, all_ended, kind_name, kind_number};
 
 use json::{Token, Writer};
-use protocol_values::{put_number, put_range, put_tokens};
+use json_members::{put_number, put_tokens};
+use protocol_values::put_range;
 use std::alloc::{AllocError, Global};
 use tera_outline::{Symbol, SymbolKind, symbols_of};
 use text_edits::{Encoding, Lines, position_at};
@@ -43,9 +44,8 @@ fn put_nested(
     symbols: &[Symbol],
 ) -> Result<(), AllocError>
     requires { AreLinesOf text.now lines.now }
-    ensures tokens { OnOk result (out.new.tokens ≡ out.old.tokens
-        ++ items_tokens (symbol_items encoding text.now (nested (map outlined symbols.now)))) }
-    ensures before { out.new.before ≡ out.old.before }
+    ensures { Puts result out.old out.new
+        (items_tokens (symbol_items encoding text.now (nested (map outlined symbols.now)))) }
 {
     // The ends of those that are begun, the innermost last.
     let mut open = Vec::new(alloc);
@@ -63,10 +63,8 @@ const SYMBOL_END: [Token<'static>; 2] = [Token::EndArray, Token::EndObject];
 
 // Ends those that end at or before the byte.
 fn end_before(out: &mut Writer, open: &mut Vec<usize>, byte: usize) -> Result<(), AllocError>
-    ensures tokens { OnOk result (out.new.tokens
-        ≡ out.old.tokens ++ end_tokens byte (reverse open.old.items)) }
+    ensures puts { Puts result out.old out.new (end_tokens byte (reverse open.old.items)) }
     ensures open { OnOk result (reverse open.new.items ≡ open_at byte (reverse open.old.items)) }
-    ensures before { out.new.before ≡ out.old.before }
 {
     'open: while let Some(end) = open.last().copied() {
         if byte < end {
@@ -79,9 +77,7 @@ fn end_before(out: &mut Writer, open: &mut Vec<usize>, byte: usize) -> Result<()
 }
 
 fn end_all(out: &mut Writer, open: &mut Vec<usize>) -> Result<(), AllocError>
-    ensures tokens { OnOk result (out.new.tokens
-        ≡ out.old.tokens ++ all_ended (reverse open.old.items)) }
-    ensures before { out.new.before ≡ out.old.before }
+    ensures { Puts result out.old out.new (all_ended (reverse open.old.items)) }
 {
     'open: while let Some(_) = open.pop() {
         put_tokens(out, &SYMBOL_END)?;
@@ -97,9 +93,7 @@ fn begin_symbol(
     symbol: &Symbol,
 ) -> Result<(), AllocError>
     requires { AreLinesOf text.now lines.now }
-    ensures tokens { OnOk result (out.new.tokens
-        ≡ out.old.tokens ++ symbol_begin encoding text.now (outlined symbol.now)) }
-    ensures before { out.new.before ≡ out.old.before }
+    ensures { Puts result out.old out.new (symbol_begin encoding text.now (outlined symbol.now)) }
 {
     put_tokens(
         out,
@@ -129,9 +123,9 @@ fn put_part(
     bytes: (usize, usize),
 ) -> Result<(), AllocError>
     requires { AreLinesOf text.now lines.now }
-    ensures tokens { OnOk result (out.new.tokens ≡ out.old.tokens ++ member_tokens member.now
-        (range_json (position_at encoding text.now bytes.0) (position_at encoding text.now bytes.1))) }
-    ensures before { out.new.before ≡ out.old.before }
+    ensures { Puts result out.old out.new
+        (member_tokens member.now (range_json (position_at encoding text.now bytes.0)
+        (position_at encoding text.now bytes.1))) }
 {
     let start = position_at(text, lines, encoding, bytes.0);
     let end = position_at(text, lines, encoding, bytes.1);

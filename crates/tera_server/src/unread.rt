@@ -1,17 +1,43 @@
-//! Files that cannot be read.
+//! Files that cannot be read, or are wrong as a whole.
 
 ghost use Rattle.std.specs.Prelude.{◌≡◌, ℕ, List, None, OnOk, OnErr, string_bytes};
 ghost use Rattle.std.specs.Option.{option_eq, option_map};
-ghost use Rattle.std.specs.Str.{bytes_eq};
-ghost use Rattle.tera_server.specs.UnreadFiles.{why_of, IsWhyAt};
+ghost use Rattle.tera_server.specs.UnreadFiles as specs;
+ghost use Rattle.tera_server.specs.UnreadFiles.{is_same, reason_view, why_of, IsWhyAt};
 
 use std::alloc::{AllocError, Global};
 use std::collections::BTreeMap;
 
-/// Why files cannot be read, by their names.
+/// Why a file cannot be read, or what is wrong in a file of settings.
+#[derive(Debug, Drop)]
+pub struct Reason {
+    /// The line of the file that is wrong, from 0, if the file was read.
+    pub line: Option<usize>,
+    pub message: String,
+}
+
+impl Reason {
+    /// That the file cannot be read.
+    pub(crate) fn unread(why: String) -> Reason
+        ensures { reason_view result ≡ specs.unread (string_bytes why) }
+    {
+        Reason {
+            line: None,
+            message: why,
+        }
+    }
+
+    fn is_same(&self, other: &Reason) -> bool
+        ensures { result ≡ is_same (reason_view self.now) (reason_view other.now) }
+    {
+        self.line == other.line && self.message == other.message
+    }
+}
+
+/// Why files cannot be read, or are wrong, by their names.
 #[derive(Drop)]
 pub(crate) struct UnreadFiles {
-    why: BTreeMap<String, String>,
+    why: BTreeMap<String, Reason>,
 }
 
 impl UnreadFiles {
@@ -23,23 +49,20 @@ impl UnreadFiles {
         }
     }
 
-    /// Why the file of this name cannot be read, if it cannot.
-    pub(crate) fn of(&self, name: &str) -> Option<&str>
-        ensures { option_map (λ t. t.now) result ≡ why_of self.now name.now }
+    /// Why the file of this name cannot be read, or what is wrong in it.
+    pub(crate) fn of(&self, name: &str) -> Option<&Reason>
+        ensures { option_map (λ r. reason_view r.now) result ≡ why_of self.now name.now }
     {
-        match self.why.get(name) {
-            Some(why) => Some(why.as_str()),
-            None => None,
-        }
+        self.why.get(name)
     }
 
     /// Whether this is why it cannot be read, or nothing is.
-    pub(crate) fn is(&self, name: &str, why: Option<&str>) -> bool
-        ensures { result ≡ option_eq bytes_eq (why_of self.now name.now) (option_map (λ t. t.now) why.entry) }
+    pub(crate) fn is(&self, name: &str, why: &Option<Reason>) -> bool
+        ensures { result ≡ option_eq is_same (why_of self.now name.now) (option_map reason_view why.now) }
     {
         match self.of(name) {
             Some(known) => match why {
-                Some(why) => known == why,
+                Some(why) => known.is_same(why),
                 None => false,
             },
             None => why.is_none(),
@@ -51,9 +74,9 @@ impl UnreadFiles {
         &mut self,
         alloc: Global,
         name: &str,
-        why: Option<String>,
+        why: Option<Reason>,
     ) -> Result<(), AllocError>
-        ensures set { OnOk result (IsWhyAt name.now (option_map string_bytes why) self.old self.new) }
+        ensures set { OnOk result (IsWhyAt name.now (option_map reason_view why) self.old self.new) }
         ensures err { OnErr result ((n : List ℕ) → why_of self.new n ≡ why_of self.old n) }
     {
         let Some(why) = why else {

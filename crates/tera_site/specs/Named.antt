@@ -8,7 +8,7 @@ use Rattle.tera_ast.specs.Tree.{Stmt, Include, Block, FunctionCall}
 use Rattle.tera_tree.specs.Parts.{PartVal, NodePart, ExpressionPart}
 use Rattle.tera_tree.specs.Outputs.{output_view}
 use Rattle.tera_tree.specs.Tree.{Output}
-use Rattle.tera_check.specs.Due.{is_due_in}
+use Rattle.tera_check.specs.Due.{is_due}
 use Rattle.tera_check.specs.Findings.{FindingVal, FindingOf, span_if_any}
 use Rattle.tera_check.specs.Named.{tree_of}
 use Rattle.tera_check.specs.declared.finding.Kind.TheVariants as kinds
@@ -112,4 +112,4 @@ names_findings a span o =
 -- those that are due, as what is found in a tree is
 abbrev pub due_names : AroundVal → Template → List FindingVal
 due_names a t =
-    option_map_or (λ o. filter (is_due_in t.mended) (names_findings a (span_if_any t.parent_at) (output_view o))) (tree_of t) []
+    option_map_or (λ o. filter (is_due false t) (names_findings a (span_if_any t.parent_at) (output_view o))) (tree_of t) []

@@ -1,7 +1,7 @@
 //! What is found of the names of templates, and of blocks: what a template extends and includes is there, and does not
 //! lead back to it; its blocks are blocks of what it extends; and each `super()` has a block to show.
 
-ghost use Rattle.std.specs.Prelude.{◌≡◌, ◌++◌, ◌∷◌, [], ℕ, List, Option, Some, MatchOption, map, OnOk, IfOk, string_bytes};
+ghost use Rattle.std.specs.Prelude.{◌≡◌, ◌++◌, ◌∷◌, [], ℕ, List, false, Option, Some, MatchOption, map, OnOk, IfOk, string_bytes};
 ghost use Rattle.std.specs.List.{filter, flat_map};
 ghost use Rattle.std.specs.List.Sorted.{IsPermutation};
 ghost use Rattle.std.specs.Option.{option_map};
@@ -10,7 +10,7 @@ ghost use Rattle.tera_ast.specs.Tree.{Block};
 ghost use Rattle.tera_ast.specs.View.{node_view, nodes_view};
 ghost use Rattle.tera_tree.specs.Outputs.{output_view};
 ghost use Rattle.tera_tree.specs.Parts.{NodePart, children, part_view};
-ghost use Rattle.tera_check.specs.Due.{is_due_in};
+ghost use Rattle.tera_check.specs.Due.{is_due};
 ghost use Rattle.tera_check.specs.Findings.{FindingOf, finding_view, span_if_any};
 ghost use Rattle.tera_check.specs.OrderAndStatus.{IsInOrder};
 ghost use Rattle.tera_site.specs.Inside.{inside_parts, to_come};
@@ -29,7 +29,7 @@ use tera_parser::ast::{
 use tera_parser::value::{Span, Spanned};
 
 /// What is found of the names that the template has, by what is around it, in the order of the places. Nothing is found
-/// that comes of what was written for a fault.
+/// that comes of what was written for a fault, or that an ignore of the template silences.
 pub fn names_found(
     alloc: Global,
     around: Around<'_, '_>,
@@ -65,13 +65,13 @@ fn due_in_tree(
     output: &ParserOutput,
 ) -> Result<Vec<Finding>, AllocError>
     ensures { let span = span_if_any template.now.parent_at in
-        IfOk result (λ v. map finding_view v.items ≡ filter (is_due_in template.now.mended)
+        IfOk result (λ v. map finding_view v.items ≡ filter (is_due false template.now)
         (names_findings (around_view around.entry) span (output_view output.now))) }
 {
     let mut found = Vec::new(alloc);
     push_names(alloc, &mut found, around, template, output)?;
     let mut due = Vec::new(alloc);
-    push_due(&mut due, false, template, found)?;
+    push_due(alloc, &mut due, false, template, found)?;
     Ok(due)
 }
 
@@ -450,11 +450,6 @@ fn push_found(
     ensures { OnOk result (map finding_view findings.new.items ≡ map finding_view findings.old.items
         ++ (FindingOf kind span.now (string_bytes message) [] ∷ [])) }
 {
-    findings.push(Finding {
-        kind,
-        span: span.copied(),
-        message,
-        notes: Vec::new(alloc),
-    })?;
+    findings.push(Finding::new(alloc, kind, span, message))?;
     Ok(())
 }

@@ -11,6 +11,7 @@ use Rattle.tera_statements.specs.Known.{grouped_of}
 use Rattle.tera_tree.specs.Outputs.{output_view}
 use Rattle.tera_tree.specs.Tree.{Output}
 use Rattle.tera_check.specs.Faults.{IsSyntaxError}
+use Rattle.tera_check.specs.Ignores.{AreIgnoresIn}
 use Rattle.tera_check.specs.Mended.{IsMended, text_of}
 use Rattle.tera_check.specs.Named.{tree_of}
 use Rattle.tera_check.specs.declared.templates.Template.{Template}
@@ -30,9 +31,10 @@ pub is_read : (name text : List ℕ) (t : Template) → string_bytes t.file ≡ 
     ((t.defined_at.items ≡ []) × (grouped_of t.parameters_at ≡ nothing_grouped))
     (λ o. (names : Places) × DerivesNames usual default_marks (text_of text t) (output_view o) names × (t.defined_at.items ≡ map (λ n. n.span) names.components)
     × (grouped_of t.parameters_at ≡ group_all names.parameters nothing_grouped))
+    → AreIgnoresIn default_marks text t
     → IsRead (record { name = name; text = text }) t
-is_read name text t file sound complete fault refusal lost notes unmended mended places =
-    record { file = file; sound = sound; complete = complete; fault = fault; refusal = refusal; lost = lost; notes = notes; unmended = unmended; mended = mended; places = places }
+is_read name text t file sound complete fault refusal lost notes unmended mended places ignores =
+    record { file = file; sound = sound; complete = complete; fault = fault; refusal = refusal; lost = lost; notes = notes; unmended = unmended; mended = mended; places = places; ignores = ignores }
 
 pub is_anew : (name text : List ℕ) (j : Judged) → j.text ≡ text → IsRead (record { name = name; text = text }) j.template
     → HasNames j.names.items j.template → j.stale ≡ true → reported_of j ≡ [] → IsAnew name text j

@@ -1,8 +1,8 @@
 -- What is found by components that are alike except their spans in one file: the same, except notes about that file.
 use Rattle.std.proofs.Common.{◌≡◌, ◌∙◌, ℕ, suc, List, [], ◌∷◌, ◌++◌, Bool, true, false, cond, Option, None, Some, map, string_bytes, refl, sym, ap, subst, inl, inr, nat_eq}
 use Rattle.std.proofs.Common.{if◌then◌else◌}
-use Rattle.std.specs.Prelude.{◌&&◌, not}
-use Rattle.std.specs.List.{flat_map, filter, AllByRecursion}
+use Rattle.std.specs.Prelude.{◌&&◌, ◌||◌, is_some, not}
+use Rattle.std.specs.List.{flat_map, filter, list_any, AllByRecursion}
 use Rattle.tera_base.specs.Contexts.{found}
 use Rattle.tera_base.specs.Values.{Val}
 use Rattle.tera_base.specs.declared.utils.Span.{Span}
@@ -11,14 +11,17 @@ use Rattle.tera_ast.specs.View.{nodes_of}
 use Rattle.tera_tree.specs.Tree.{Argument, Definition, Output}
 use Rattle.tera_check.specs.Alike.{name_called, names_in}
 use Rattle.tera_check.specs.Calls.{calls_in_definition, calls_in_nodes, calls_of}
-use Rattle.tera_check.specs.Due.{is_due, is_due_in, is_undefined_kind}
-use Rattle.tera_check.specs.Findings.{NoteVal, FindingVal, FindingOf}
+use Rattle.tera_check.specs.Due.{due_among, is_due, is_due_in}
+use Rattle.tera_check.specs.Findings.{NoteVal, FindingVal, FoundAs, kind_name}
+use Rattle.tera_check.specs.Ignores.{IgnoreVal, ignores_view}
 use Rattle.tera_check.specs.Judged.{KnownVal, RemarkVal, taken_by, about, remarked, refused_for, unless_rest, unknown, refusal, counted, refused, refused_one, is_again, refused_findings, missed, missing_findings, missing_in, judged, call_findings, again, defined_again, again_findings}
 use Rattle.tera_check.specs.Named.{span_at, taken_in, tree_findings}
 use Rattle.tera_check.specs.Parameters.{parameter_at, unused_in}
 use Rattle.tera_check.specs.Rules.{small_findings}
+use Rattle.tera_check.specs.Silenced.{is_judged, is_silenced_at, is_undefined_kind, silences, silences_at, unused_ignore, unused_ignores}
 use Rattle.tera_check.specs.Passed.{NamedVal, PassedVal, OneNamed, Whatever, has_whatever, is_passed, passed_by}
 use Rattle.tera_check.specs.declared.finding.Kind.{Kind}
+use Rattle.tera_check.specs.declared.finding.Severity.{Severity}
 use Rattle.tera_check.specs.declared.mended.Mended.{Mended}
 use Rattle.tera_check.specs.declared.templates.Template.{Template}
 use Rattle.tera_check.proofs.TakenLemmas.{all_append, agree_both, unused_alike, taken_by_arguments}
@@ -27,10 +30,10 @@ use Rattle.tera_workspace.specs.Beside.{IsBeside, AreAlikeBut, AreAlikeButIfAny,
 -- ---- findings that differ by notes about one file
 
 abbrev kind_of : FindingVal → Kind
-kind_of (FindingOf kind span text notes) = kind
+kind_of (FoundAs kind severity span text notes) = kind
 
 abbrev span_of : FindingVal → Span
-span_of (FindingOf kind span text notes) = span
+span_of (FoundAs kind severity span text notes) = span
 
 -- of one kind at one span; and the same, where the first has no note about the file
 pub record AreSameBut (file : List ℕ) (f g : FindingVal) : Type 0 where
@@ -68,10 +71,10 @@ false_true : false ≡ true → ⊥
 false_true e = cc
 
 module _ (file : List ℕ) (test : FindingVal → Bool)
-    (by_kind_and_span : (kind : Kind) (span : Span) (text other : List ℕ) (notes others : List NoteVal) → test (FindingOf kind span text notes) ≡ test (FindingOf kind span other others)) where
+    (by_kind_and_span : (kind : Kind) (severity another : Severity) (span : Span) (text other : List ℕ) (notes others : List NoteVal) → test (FoundAs kind severity span text notes) ≡ test (FoundAs kind another span other others)) where
   test_same : (f g : FindingVal) → AreSameBut file f g → test f ≡ test g
-  test_same (FindingOf kind span text notes) (FindingOf now there other others) h =
-      by_kind_and_span kind span text other notes others ∙ λ i. test (FindingOf (h.kind i) (h.span i) other others)
+  test_same (FoundAs kind severity span text notes) (FoundAs now another there other others) h =
+      by_kind_and_span kind severity another span text other notes others ∙ λ i. test (FoundAs (h.kind i) another (h.span i) other others)
 
   kept_same : (b c : Bool) (f g : FindingVal) (fs gs : List FindingVal) → b ≡ c → (IsBeside file f → f ≡ g) → (AllByRecursion (IsBeside file) fs → fs ≡ gs)
       → AllByRecursion (IsBeside file) (cond b (f ∷ fs) fs) → cond b (f ∷ fs) fs ≡ cond c (g ∷ gs) gs
@@ -189,16 +192,31 @@ module _ (file : List ℕ) (number : ℕ) where
   defined_any (Some k) None h span = absurd h
   defined_any (Some k) (Some j) h span = defined_but file number k j h span
 
--- whether a finding is due does not depend on its text and its notes
-due_in_by : (m : Option Mended) (kind : Kind) (span : Span) (text other : List ℕ) (notes others : List NoteVal)
-    → is_due_in m (FindingOf kind span text notes) ≡ is_due_in m (FindingOf kind span other others)
-due_in_by None kind span text other notes others = refl
-due_in_by (Some m) kind span text other notes others = refl
+-- whether a finding is due does not depend on how grave it is, on its text and on its notes
+due_in_by : (m : Option Mended) (kind : Kind) (severity another : Severity) (span : Span) (text other : List ℕ) (notes others : List NoteVal)
+    → is_due_in m (FoundAs kind severity span text notes) ≡ is_due_in m (FoundAs kind another span other others)
+due_in_by None kind severity another span text other notes others = refl
+due_in_by (Some m) kind severity another span text other notes others = refl
 
-due_by : (open_text : Bool) (t : Template) (kind : Kind) (span : Span) (text other : List ℕ) (notes others : List NoteVal)
-    → is_due open_text t (FindingOf kind span text notes) ≡ is_due open_text t (FindingOf kind span other others)
-due_by open_text t kind span text other notes others =
-    ap (λ b. not (open_text && is_undefined_kind kind) && b) (due_in_by t.mended kind span text other notes others)
+due_by : (open_text : Bool) (t : Template) (kind : Kind) (severity another : Severity) (span : Span) (text other : List ℕ) (notes others : List NoteVal)
+    → is_due open_text t (FoundAs kind severity span text notes) ≡ is_due open_text t (FoundAs kind another span other others)
+due_by open_text t kind severity another span text other notes others =
+    ap (λ b. not (open_text && is_undefined_kind kind) && (b && not (is_silenced_at (ignores_view t.ignores.items) (kind_name kind) span.start_line)))
+    (due_in_by t.mended kind severity another span text other notes others)
+
+-- .. and which ignores silence nothing does not depend on notes
+silences_one : (file : List ℕ) (i : IgnoreVal) (f g : FindingVal) → AreSameBut file f g → silences i f ≡ silences i g
+silences_one file i (FoundAs kind severity span text notes) (FoundAs now later there other others) h = λ k. silences_at i (kind_name (h.kind k)) (h.span k).start_line
+
+silences_any : (file : List ℕ) (i : IgnoreVal) (fs gs : List FindingVal) → AreEachSameBut file fs gs → list_any (silences i) fs ≡ list_any (silences i) gs
+silences_any file i [] [] h = refl
+silences_any file i [] (g ∷ gs) h = absurd h
+silences_any file i (f ∷ fs) [] h = absurd h
+silences_any file i (f ∷ fs) (g ∷ gs) h = λ k. silences_one file i f g h.0 k || silences_any file i fs gs h.1 k
+
+unused_same : (file : List ℕ) (open_text : Bool) (t : Template) (fs gs : List FindingVal) → AreEachSameBut file fs gs → unused_ignores open_text t fs ≡ unused_ignores open_text t gs
+unused_same file open_text t fs gs h =
+    λ k. if is_some t.mended then [] else map unused_ignore (filter (λ i. is_judged open_text i.rule && not (silences_any file i fs gs h k)) (ignores_view t.ignores.items))
 
 module _ (file : List ℕ) (number : ℕ) (known others : List ℕ → Option KnownVal) where
   call_but : (own : List ℕ) (e : Expr) → AgreeBut (name_called e) file number known others → AreEachSameBut file (call_findings own known e) (call_findings own others e)
@@ -261,6 +279,11 @@ module _ (file : List ℕ) (number : ℕ) (known others : List ℕ → Option Kn
   tree_but t o h b = each_same file (tree_findings known number t o) (tree_findings others number t o) (tree_each t o h) b
 
   pub due_but : (open_text : Bool) (t : Template) (o : Output) → AgreeBut (names_in o) file number known others
-      → AllByRecursion (IsBeside file) (filter (is_due open_text t) (tree_findings known number t o))
-      → filter (is_due open_text t) (tree_findings known number t o) ≡ filter (is_due open_text t) (tree_findings others number t o)
-  due_but open_text t o h b = filter_same file (is_due open_text t) (due_by open_text t) (tree_findings known number t o) (tree_findings others number t o) (tree_each t o h) b
+      → AllByRecursion (IsBeside file) (due_among open_text t (tree_findings known number t o))
+      → due_among open_text t (tree_findings known number t o) ≡ due_among open_text t (tree_findings others number t o)
+  due_but open_text t o h b =
+      let before = tree_findings known number t o in
+      let now = tree_findings others number t o in
+      let each = tree_each t o h in
+      let (unused, due) = all_append (IsBeside file) (unused_ignores open_text t before) (filter (is_due open_text t) before) b in
+      λ i. unused_same file open_text t before now each i ++ filter_same file (is_due open_text t) (due_by open_text t) before now each due i

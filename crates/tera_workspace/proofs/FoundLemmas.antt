@@ -1,13 +1,12 @@
 -- What is due of the findings in a tree, by components that are known alike.
 use Rattle.std.proofs.Common.{◌≡◌, ◌∙◌, ℕ, List, [], ◌++◌, map, Bool, true, Option, None, Some, String, string_bytes, MatchOption, refl, ap, subst}
-use Rattle.std.specs.List.{filter}
 use Rattle.std.specs.List.Sorted.{IsPermutation}
 use Rattle.std.specs.Option.{option_map_or}
 use Rattle.std.specs.declared.alloc.Global.{Global}
 use Rattle.tera_tree.specs.Outputs.{output_view}
 use Rattle.tera_tree.specs.declared.outputs.ParserOutput.{ParserOutput}
 use Rattle.tera_check.specs.Alike.{names_in, AreAlikeIfAny, AgreeOn}
-use Rattle.tera_check.specs.Due.{due_findings, is_due}
+use Rattle.tera_check.specs.Due.{due_among, due_findings}
 use Rattle.tera_check.specs.FaultFindings.{AreFaultsOf}
 use Rattle.tera_check.specs.Findings.{FindingVal, finding_view}
 use Rattle.tera_check.specs.Judged.{KnownVal}
@@ -24,14 +23,14 @@ use Rattle.tera_workspace.proofs.NameSets.{all_among}
 
 -- of the tree that there is, if any
 abbrev pub due_in : (List ℕ → Option KnownVal) → Bool → ℕ → Template → Option ParserOutput → List FindingVal
-due_in known open_text number t r = option_map_or (λ o. filter (is_due open_text t) (tree_findings known number t (output_view o))) r []
+due_in known open_text number t r = option_map_or (λ o. due_among open_text t (tree_findings known number t (output_view o))) r []
 
 pub due_alike : (number other : ℕ) (known others : List ℕ → Option KnownVal) (open_text : Bool) (t : Template) (r : Option ParserOutput)
     → MatchOption r (Unit {0}) (λ o. AgreeOn (names_in (output_view o)) number other known others)
     → due_in known open_text number t r ≡ due_in others open_text other t r
 due_alike number other known others open_text t None agree = refl
 due_alike number other known others open_text t (Some o) agree =
-    ap (filter (is_due open_text t)) (tree_alike number other known others t (output_view o) agree)
+    ap (due_among open_text t) (tree_alike number other known others t (output_view o) agree)
 
 -- what is due by other components, or by other texts that may define more
 pub found_if : (ts us : List Template) (number other : ℕ) (t : Template) (fs : List Finding) (h : IsFound ts number t fs)

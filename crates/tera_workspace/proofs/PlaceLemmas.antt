@@ -3,7 +3,7 @@ use Rattle.std.proofs.Common.{◌≡◌, ◌≢◌, ◌∙◌, ◌<◌, ℕ, zer
 use Rattle.std.specs.List.{AllByRecursion, list_any}
 use Rattle.std.specs.Str.{bytes_eq}
 use Rattle.std.proofs.lemmas.Slice.Eq.{bytes_eq-Decides}
-use Rattle.tera_check.specs.Findings.{NoteVal, NoteOf, FindingVal, FindingOf}
+use Rattle.tera_check.specs.Findings.{NoteVal, NoteOf, FindingVal, FoundAs}
 use Rattle.text_edits.specs.declared.positions.Encoding.{Encoding}
 use Rattle.tera_workspace.specs.Beside.{IsElsewhere, IsBeside}
 use Rattle.tera_workspace.specs.Diagnostics.{RelatedVal, DiagnosticVal, diagnostic_view, related_view, related_of, diagnostic_of, position_in}
@@ -56,8 +56,8 @@ module _ (e : Encoding) (file : List ℕ) (before after : List Source) (same : (
   notes_same (note ∷ notes) h = λ i. note_same note h.0 i ∷ notes_same notes h.1 i
 
   finding_same : (text : List ℕ) (f : FindingVal) → IsBeside file f → diagnostic_of e after text f ≡ diagnostic_of e before text f
-  finding_same text (FindingOf kind span message notes) h =
-      ap (λ related. record { kind = kind; start = position_in e text span.range.start; end = position_in e text span.range.end; message = message; related = related }) (notes_same notes h)
+  finding_same text (FoundAs kind severity span message notes) h =
+      ap (λ related. record { kind = kind; severity = severity; start = position_in e text span.range.start; end = position_in e text span.range.end; message = message; related = related }) (notes_same notes h)
 
   pub findings_same : (text : List ℕ) (fs : List FindingVal) → AllByRecursion (IsBeside file) fs → map (diagnostic_of e after text) fs ≡ map (diagnostic_of e before text) fs
   findings_same text [] h = refl
@@ -69,7 +69,7 @@ abbrev note_in : List ℕ → NoteVal → Bool
 note_in file (NoteOf of_file span message) = bytes_eq of_file file
 
 abbrev pub reports : List ℕ → FindingVal → Bool
-reports file (FindingOf kind span message notes) = list_any (note_in file) notes
+reports file (FoundAs kind severity span message notes) = list_any (note_in file) notes
 
 notes_beside : (file : List ℕ) (notes : List NoteVal) → list_any (note_in file) notes ≡ false → AllByRecursion (IsElsewhere file) notes
 notes_beside file [] h = tt
@@ -77,7 +77,7 @@ notes_beside file (NoteOf of_file span message ∷ notes) h =
     (apart of_file file (first_false (bytes_eq of_file file) (list_any (note_in file) notes) h), notes_beside file notes (second_false (bytes_eq of_file file) (list_any (note_in file) notes) h))
 
 one_beside : (file : List ℕ) (f : FindingVal) → reports file f ≡ false → IsBeside file f
-one_beside file (FindingOf kind span message notes) h = notes_beside file notes h
+one_beside file (FoundAs kind severity span message notes) h = notes_beside file notes h
 
 pub all_beside : (file : List ℕ) (fs : List FindingVal) → list_any (reports file) fs ≡ false → AllByRecursion (IsBeside file) fs
 all_beside file [] h = tt
@@ -101,7 +101,7 @@ report_notes e file ss [] = refl
 report_notes e file ss (NoteOf of_file span message ∷ notes) = ap (λ (b : Bool). bytes_eq of_file file || b) (report_notes e file ss notes)
 
 report_one : (e : Encoding) (file : List ℕ) (ss : List Source) (text : List ℕ) (f : FindingVal) → reported_in file (diagnostic_of e ss text f) ≡ reports file f
-report_one e file ss text (FindingOf kind span message notes) = report_notes e file ss notes
+report_one e file ss text (FoundAs kind severity span message notes) = report_notes e file ss notes
 
 report_all : (e : Encoding) (file : List ℕ) (ss : List Source) (text : List ℕ) (fs : List FindingVal) → list_any (reported_in file) (map (diagnostic_of e ss text) fs) ≡ list_any (reports file) fs
 report_all e file ss text [] = refl

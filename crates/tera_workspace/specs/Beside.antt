@@ -1,7 +1,7 @@
 -- What is found in a template, as far as it says no place in one file.
 use Rattle.std.specs.Prelude.{◌≡◌, ◌≢◌, ◌⊎◌, ℕ, List, Option, None, Some, nat_eq}
 use Rattle.std.specs.List.{AllByRecursion}
-use Rattle.tera_check.specs.Findings.{NoteVal, NoteOf, FindingVal, FindingOf}
+use Rattle.tera_check.specs.Findings.{NoteVal, NoteOf, FindingVal, FoundAs}
 use Rattle.tera_check.specs.Judged.{KnownVal}
 
 -- the note is about another file than this one
@@ -10,7 +10,7 @@ IsElsewhere file (NoteOf of_file span text) = of_file ≢ file
 
 -- no note of the finding is about this file
 abbrev pub IsBeside : List ℕ → FindingVal → Type 0
-IsBeside file (FindingOf kind span text notes) = AllByRecursion (IsElsewhere file) notes
+IsBeside file (FoundAs kind severity span text notes) = AllByRecursion (IsElsewhere file) notes
 
 -- components that are reported alike, but that in this file their spans may differ
 pub record AreAlikeBut (file : List ℕ) (number : ℕ) (k j : KnownVal) : Type 0 where

@@ -4,8 +4,9 @@ use Rattle.text_edits.specs.Lines.{lines_of}
 use Rattle.text_edits.specs.Positions.{position_of, boundary_to}
 use Rattle.text_edits.specs.declared.positions.Encoding.{Encoding}
 use Rattle.text_edits.specs.declared.positions.Position.{Position}
-use Rattle.tera_check.specs.Findings.{NoteVal, NoteOf, FindingVal, FindingOf}
+use Rattle.tera_check.specs.Findings.{NoteVal, NoteOf, FindingVal, FoundAs}
 use Rattle.tera_check.specs.declared.finding.Kind.{Kind}
+use Rattle.tera_check.specs.declared.finding.Severity.{Severity}
 use Rattle.tera_workspace.specs.Sources.{Source, text_named}
 use Rattle.tera_workspace.specs.declared.diagnostics.Diagnostic.{Diagnostic}
 use Rattle.tera_workspace.specs.declared.diagnostics.Related.{Related}
@@ -17,9 +18,10 @@ pub record RelatedVal : Type 0 where
   pub end : Position
   pub message : List ℕ
 
--- what was found, the part of the text that it is about, and what explains it
+-- what was found, how grave it is, the part of the text that it is about, and what explains it
 pub record DiagnosticVal : Type 0 where
   pub kind : Kind
+  pub severity : Severity
   pub start : Position
   pub end : Position
   pub message : List ℕ
@@ -31,6 +33,7 @@ related_view r = record { file = string_bytes r.file; start = r.start; end = r.e
 abbrev pub diagnostic_view : Diagnostic → DiagnosticVal
 diagnostic_view d = record {
   kind = d.kind;
+  severity = d.severity;
   start = d.start;
   end = d.end;
   message = string_bytes d.message;
@@ -52,8 +55,9 @@ related_of e sources (NoteOf file span message) = record {
 
 -- and of a finding in a text
 abbrev pub diagnostic_of : Encoding → List Source → List ℕ → FindingVal → DiagnosticVal
-diagnostic_of e sources text (FindingOf kind span message notes) = record {
+diagnostic_of e sources text (FoundAs kind severity span message notes) = record {
   kind = kind;
+  severity = severity;
   start = position_in e text span.range.start;
   end = position_in e text span.range.end;
   message = message;

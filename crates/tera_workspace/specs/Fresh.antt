@@ -15,6 +15,7 @@ use Rattle.tera_check.specs.Faults.{IsSyntaxError}
 use Rattle.tera_check.specs.Due.{due_findings}
 use Rattle.tera_check.specs.FaultFindings.{AreFaultsOf}
 use Rattle.tera_check.specs.Findings.{FindingVal, finding_view}
+use Rattle.tera_check.specs.Ignores.{AreIgnoresIn}
 use Rattle.tera_check.specs.Lost.{are_open}
 use Rattle.tera_check.specs.Mended.{IsMended, text_of}
 use Rattle.tera_check.specs.Named.{tree_of, first_named, defined_by}
@@ -45,6 +46,7 @@ pub record IsRead (s : Source) (t : Template) : Type 0 where
       ((t.defined_at.items ≡ []) × (grouped_of t.parameters_at ≡ nothing_grouped))
       (λ o. (names : Places) × DerivesNames usual default_marks (text_of s.text t) (output_view o) names × (t.defined_at.items ≡ map (λ n. n.span) names.components)
       × (grouped_of t.parameters_at ≡ group_all names.parameters nothing_grouped))
+  pub ignores : AreIgnoresIn default_marks s.text t
 
 -- what is found in the template of a number beside all of these, as `findings_of` gives it: its faults, and what is due
 -- of its tree

@@ -8,7 +8,7 @@ ghost use Rattle.tera_workspace.specs.Sources.{AreAscending, text_named};
 
 use crate::judged::{Judged, place_of};
 use std::alloc::{AllocError, Global};
-use tera_check::{Finding, Kind, Note};
+use tera_check::{Finding, Kind, Note, Severity};
 use tera_parser::value::Span;
 use text_edits::{Encoding, Position};
 
@@ -16,6 +16,7 @@ use text_edits::{Encoding, Position};
 #[derive(Debug, Drop, PartialEq, Eq)]
 pub struct Diagnostic {
     pub kind: Kind,
+    pub severity: Severity,
     pub start: Position,
     pub end: Position,
     pub message: String,
@@ -50,6 +51,7 @@ pub(crate) fn diagnostics_of(
         let related = related_of(alloc, encoding, all, finding.notes)?;
         diagnostics.push(Diagnostic {
             kind: finding.kind,
+            severity: finding.severity,
             start,
             end,
             message: finding.message,

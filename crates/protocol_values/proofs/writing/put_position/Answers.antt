@@ -1,7 +1,7 @@
-use Rattle.std.proofs.Common.{append_assoc}
+use Rattle.json_members.proofs.Putting.{then_all, token}
 use Rattle.protocol_values.proofs.writing.put_position.Goals as goal
 
-pub returns-clause-tokens : goal.returns-clause-tokens
-returns-clause-tokens c =
-    simp append_assoc at
-    (rw (c.in_ok-put_number-2.ensures.tokens, c.in_ok-put_number.ensures.tokens, c.in_ok-put_tokens.ensures.tokens) at c.end_object.ensures.ok)
+pub returns : goal.returns
+returns c =
+    then_all _ c.in_ok-put_tokens.ensures (then_all _ c.in_ok-put_number.ensures (then_all _ c.in_ok-put_number-2.ensures
+    (token _ c.end_object.ensures)))

@@ -1,8 +1,9 @@
 use Rattle.std.proofs.Common.{◌≡◌, IfOk, map, subst}
 use Rattle.terminal_text.specs.Files.{source_of}
 use Rattle.tera_program.specs.Sources.{nothing, unreadable_view, with_sources}
+use Rattle.tera_check.specs.Levels.{level_of}
+use Rattle.tera_check.specs.Registered.{registered_if_any}
 use Rattle.tera_program.specs.Report.{IsReported}
-use Rattle.tera_program.specs.Rules.{is_reported}
 use Rattle.tera_program.proofs.Same.{same_answers}
 use Rattle.tera_program.proofs.check.write_all_findings.Goals as goal
 
@@ -12,5 +13,5 @@ returns-clause-report g c =
     let job = c.args.job.now in
     let same : source_of c.in_ok-sources.sources ≡ with_sources nothing all.sources.items =
     same_answers (source_of c.in_ok-sources.sources) (with_sources nothing all.sources.items) c.in_ok-sources.ensures in
-    subst (λ known. IfOk c.write_findings.result (IsReported job.form c.args.style known (map unreadable_view all.unread.items) all.templates.items all.names all.checked
-    (is_reported job.rules) (g.W.Write.contents c.args.writer.now) (g.W.Write.contents c.write_findings.new.writer))) same c.write_findings.ensures.report
+    subst (λ known. IfOk c.write_findings.result (IsReported job.form c.args.style known (map unreadable_view all.unread.items) all.templates.items all.names (registered_if_any c.args.registered) all.checked
+    (level_of job.rules) (g.W.Write.contents c.args.writer.now) (g.W.Write.contents c.write_findings.new.writer))) same c.write_findings.ensures.report

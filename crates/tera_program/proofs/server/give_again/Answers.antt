@@ -1,10 +1,6 @@
-use Rattle.tera_server.specs.declared.server.OnDisk.TheVariants.{Nothing}
-use Rattle.tera_program.proofs.ServingLemmas.{is_loaded, is_unloaded}
+use Rattle.tera_program.proofs.SendLemmas.{on_any_err}
+use Rattle.tera_program.proofs.ServingLemmas.{unloaded}
 use Rattle.tera_program.proofs.server.give_again.Goals as goal
 
-pub returns-else-is_in_any-clause-loaded : goal.returns-else-is_in_any-clause-loaded
-returns-else-is_in_any-clause-loaded g c =
-    is_loaded c.load.result c.args.path.now Nothing c.args.server.now c.load.new.self c.load.ensures.stays c.load.ensures.same c.load.ensures.loaded c.load.ensures.known
-
-pub returns-else-is_in_any-clause-unloaded : goal.returns-else-is_in_any-clause-unloaded
-returns-else-is_in_any-clause-unloaded g c = is_unloaded c.load.result c.args.path.now c.args.server.now c.load.new.self c.load.ensures.stays c.load.ensures.same c.load.ensures.err
+pub returns-in_err-is_named_so-clause-unloaded : goal.returns-in_err-is_named_so-clause-unloaded
+returns-in_err-is_named_so-clause-unloaded g c = on_any_err c.from_residual.result (unloaded c.args.path.now c.args.server.now)

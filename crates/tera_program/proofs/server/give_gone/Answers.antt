@@ -12,4 +12,4 @@ pub returns-else-is_known-clause-given : goal.returns-else-is_known-clause-given
 returns-else-is_known-clause-given g c = on_ok c.give_known.result (λ h. inr (inr (inl h))) c.give_known.ensures.given
 
 pub returns-else-is_known-clause-in_part : goal.returns-else-is_known-clause-in_part
-returns-else-is_known-clause-in_part g c = on_err c.give_known.result (λ h. inr (inl h)) c.give_known.ensures.in_part
+returns-else-is_known-clause-in_part g c = on_err c.give_known.result (λ h. inr (inl (inl h))) c.give_known.ensures.in_part

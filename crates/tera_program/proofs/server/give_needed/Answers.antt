@@ -6,18 +6,18 @@ use Rattle.tera_program.proofs.server.give_needed.Goals as goal
 pub returns-in-Folder-clause-given : goal.returns-in-Folder-clause-given
 returns-in-Folder-clause-given g c =
     let s = c.args.server.now in
-    let t = c.give_folder.new.server in
-    let r = c.give_folder.result in
+    let t = c.give_with_settings.new.server in
+    let r = c.give_with_settings.result in
     subst (λ n. OnOk r (AreGiven (needed_view n) s t)) (sym c.in-Folder.is)
-    (subst (λ p. OnOk r (AreGiven (NeedsFolder p) s t)) c.as_str.ensures.value c.give_folder.ensures.given)
+    (subst (λ p. OnOk r (AreGiven (NeedsFolder p) s t)) c.as_str.ensures.value c.give_with_settings.ensures.given)
 
 pub returns-in-Folder-clause-in_part : goal.returns-in-Folder-clause-in_part
 returns-in-Folder-clause-in_part g c =
     let s = c.args.server.now in
-    let t = c.give_folder.new.server in
-    let r = c.give_folder.result in
+    let t = c.give_with_settings.new.server in
+    let r = c.give_with_settings.result in
     subst (λ n. OnErr r (AreGivenInPart (needed_view n) s t)) (sym c.in-Folder.is)
-    (subst (λ p. OnErr r (AreGivenInPart (NeedsFolder p) s t)) c.as_str.ensures.value c.give_folder.ensures.in_part)
+    (subst (λ p. OnErr r (AreGivenInPart (NeedsFolder p) s t)) c.as_str.ensures.value c.give_with_settings.ensures.in_part)
 
 pub returns-in-Changed-clause-given : goal.returns-in-Changed-clause-given
 returns-in-Changed-clause-given g c =

@@ -1,10 +1,6 @@
-use Rattle.tera_server.specs.declared.server.OnDisk.TheVariants.{Nothing}
-use Rattle.tera_program.proofs.ServingLemmas.{is_loaded, is_unloaded}
+use Rattle.tera_program.proofs.SendLemmas.{on_any_err}
+use Rattle.tera_program.proofs.ServingLemmas.{unloaded}
 use Rattle.tera_program.proofs.server.give_single.Goals as goal
 
-pub returns-then-is_left_out-clause-loaded : goal.returns-then-is_left_out-clause-loaded
-returns-then-is_left_out-clause-loaded g c =
-    is_loaded c.load.result c.args.path.now Nothing c.args.server.now c.load.new.self c.load.ensures.stays c.load.ensures.same c.load.ensures.loaded c.load.ensures.known
-
-pub returns-then-is_left_out-clause-unloaded : goal.returns-then-is_left_out-clause-unloaded
-returns-then-is_left_out-clause-unloaded g c = is_unloaded c.load.result c.args.path.now c.args.server.now c.load.new.self c.load.ensures.stays c.load.ensures.same c.load.ensures.err
+pub returns-in_err-is_excluded_in-clause-unloaded : goal.returns-in_err-is_excluded_in-clause-unloaded
+returns-in_err-is_excluded_in-clause-unloaded g c = on_any_err c.from_residual.result (unloaded c.args.path.now c.args.server.now)

@@ -1,4 +1,5 @@
 use Rattle.std.proofs.Common.{◌∙◌, ◌≡◌, List, ℕ, Option, None, IfErr, IfOk, IfSome, MatchOption, string_bytes, subst, sym}
+use Rattle.tera_check.specs.Ignores.{AreIgnoresIn}
 use Rattle.tera_check.specs.Mended.{IsMended, text_by}
 use Rattle.tera_check.specs.Named.{tree_of}
 use Rattle.tera_check.specs.declared.mended.Mended.{Mended}
@@ -25,6 +26,7 @@ returns c =
         refused = subst (λ source. IfErr template.parsed (Refuses m source)) text c.in_ok-template.ensures.refusal;
         lost = subst (λ source. IfErr template.parsed (LosesSource usual m source)) text c.in_ok-template.ensures.lost;
         mended = subst (λ (o : Option Mended). IfSome o (IsMended (string_bytes c.args.source.now.file) (string_bytes c.args.source.now.text) 100)) (sym alone) tt;
+        ignores = subst (λ source. AreIgnoresIn m source template) text c.in_ok-template.ensures.ignores;
       };
       clean = λ output d. c.in_ok-template.ensures.complete output (rw text d);
       tree = if_any _ _ _ (tree_of template)

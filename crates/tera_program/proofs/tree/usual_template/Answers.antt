@@ -1,4 +1,5 @@
 use Rattle.std.proofs.Common.{◌∙◌, IfErr, IfOk, IfSome, string_bytes, subst}
+use Rattle.tera_check.specs.Ignores.{AreIgnoresIn}
 use Rattle.tera_check.specs.Mended.{IsMended, text_of}
 use Rattle.tera_check.specs.Named.{tree_of}
 use Rattle.tera_grammar.specs.Limits.{usual}
@@ -23,6 +24,7 @@ returns c =
         lost = subst (λ source. IfErr template.parsed (LosesSource usual default_marks source)) text c.in_ok-template.ensures.lost;
         mended = subst (λ name. IfSome template.mended (IsMended name (string_bytes c.args.source.now.text) 100)) file
             (subst (λ source. IfSome template.mended (IsMended c.as_str-file.result.now source 100)) text c.in_ok-template.ensures.mended);
+        ignores = subst (λ source. AreIgnoresIn default_marks source template) text c.in_ok-template.ensures.ignores;
       };
       clean = λ output d. c.in_ok-template.ensures.complete output (rw text d);
       tree = if_any _ _ _ (tree_of template)

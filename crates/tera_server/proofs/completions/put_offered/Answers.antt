@@ -8,18 +8,22 @@ use Rattle.tera_server.specs.Completions.{item_json, kind_number, offered}
 use Rattle.tera_server.proofs.Tails.{and_so}
 use Rattle.tera_server.proofs.completions.put_offered.Goals as goal
 
-pub returns-clause-tokens : goal.returns-clause-tokens
-returns-clause-tokens c =
+pub returns : goal.returns
+returns c =
     let place = c.args.place in
     let w = c.args.offering.workspace.now in
     let folders = map string_bytes c.args.offering.folders.now.items in
     let written = λ (names : List (List ℕ)). c.args.out.now.tokens ++ json_tokens (array (items_of (map (item_json place.start place.end (kind_number place.kind)) names))) in
-    and_so c.put_items.result c.put_items.ensures.tokens
-    (λ h. h
-    ∙ ap written
-    (c.in_ok-sorted.ensures
-    ∙ ap (λ names. once_each (texts names)) c.as_slice-2.ensures.value
-    ∙ ap once_each
-    (c.in_ok-names.ensures
-    ∙ ap (λ named. offered w folders (map name_view named) place.kind) c.as_slice.ensures.value
-    ∙ ap (λ named. offered w folders named place.kind) c.in_ok-named.ensures)))
+    record {
+      tokens =
+          and_so c.put_items.result c.put_items.ensures.tokens
+          (λ h. h
+          ∙ ap written
+          (c.in_ok-sorted.ensures
+          ∙ ap (λ names. once_each (texts names)) c.as_slice-2.ensures.value
+          ∙ ap once_each
+          (c.in_ok-names.ensures
+          ∙ ap (λ named. offered w folders (map name_view named) place.kind) c.as_slice.ensures.value
+          ∙ ap (λ named. offered w folders named place.kind) c.in_ok-named.ensures)));
+      before = c.put_items.ensures.before;
+    }

@@ -1,6 +1,6 @@
 use Rattle.std.proofs.Common.{rules, ◌≡◌, ◌∙◌, ◌++◌, map, string_bytes, sym, ap, subst}
 use Rattle.std.proofs.lemmas.List.{map-append}
-use Rattle.tera_server.specs.Sending.{with_all, messages_in}
+use Rattle.tera_server.specs.Sending.{with_all, messages_in, publisher_of}
 use Rattle.tera_server.specs.Settling.{due_of, IsSettling}
 use Rattle.tera_server.specs.declared.server.Phase.TheVariants.{Running}
 use Rattle.tera_server.specs.declared.server.Server.{Server}
@@ -24,15 +24,15 @@ returns-in_err-publish_each-clause-unsettled c =
     let due = c.append.new.self in
     on_any_err c.from_residual-in_err-publish_each.result
     (part_due s c.settle.new.self c.in_ok-self.field-0 due c.args.out.now c.publish_each.new.out (moved s due c.in_ok-append.ensures.items) c.in_ok-self.ensures.names
-    (rw (c.as_slice-unpublished.ensures.value, c.as_slice.ensures.value) at c.in_err-publish_each.ensures.in_part))
+    (rw (c.as_slice-folders.ensures.value, c.as_slice-unpublished.ensures.value, c.as_slice.ensures.value) at c.in_err-publish_each.ensures.in_part))
 
 pub returns-in_err-publish_each-2-clause-unsettled : goal.returns-in_err-publish_each-2-clause-unsettled
 returns-in_err-publish_each-2-clause-unsettled c =
     let s = c.args.self.now in
     let w = c.settle.new.self in
     let due = c.append.new.self in
-    let more = rw (c.as_slice-unpublished.ensures.value, c.as_slice.ensures.value, moved s due c.in_ok-append.ensures.items) at c.in_ok-publish_each.ensures.published in
-    let sent = first_beside_nothing s.editor s.unread s.client.related w _ _ _ (rw c.as_slice-unpublished.ensures.value at c.in_err-publish_each-2.ensures.in_part) in
+    let more = rw (c.as_slice-folders.ensures.value, c.as_slice-unpublished.ensures.value, c.as_slice.ensures.value, moved s due c.in_ok-append.ensures.items) at c.in_ok-publish_each.ensures.published in
+    let sent = first_beside_nothing (publisher_of s) w _ _ _ (rw (c.as_slice-folders.ensures.value, c.as_slice-unpublished.ensures.value) at c.in_err-publish_each-2.ensures.in_part) in
     on_any_err c.from_residual-in_err-publish_each-2.result
     (part_others s w c.in_ok-self.field-0 c.clear.new.self c.args.out.now c.publish_each.new.out c.publish_each-2.new.out c.in_ok-self.ensures.names more sent)
 
@@ -48,11 +48,11 @@ returns-clause-settled c =
     let next = c.publish_each.new.out in
     let now = c.publish_each-2.new.out in
     let running : s.phase ≡ Running = search rules in
-    let more = rw (c.as_slice-unpublished.ensures.value, c.as_slice.ensures.value, moved s due c.in_ok-append.ensures.items) at c.in_ok-publish_each.ensures.published in
-    let sent : now ≡ with_all next (messages_in s.editor s.unread s.client.related w (names_of others)) =
-    c.in_ok-publish_each-2.ensures.published
-    ∙ ap (λ ns. with_all next (messages_in s.editor s.unread s.client.related w ns)) (beside_nothing (map string_bytes c.as_slice-unpublished.result.now))
-    ∙ ap (λ names. with_all next (messages_in s.editor s.unread s.client.related w (map string_bytes names))) c.as_slice-unpublished.ensures.value in
+    let more = rw (c.as_slice-folders.ensures.value, c.as_slice-unpublished.ensures.value, c.as_slice.ensures.value, moved s due c.in_ok-append.ensures.items) at c.in_ok-publish_each.ensures.published in
+    let sent : now ≡ with_all next (messages_in (publisher_of s) w (names_of others)) =
+    (rw c.as_slice-folders.ensures.value at c.in_ok-publish_each-2.ensures.published)
+    ∙ ap (λ ns. with_all next (messages_in (publisher_of s) w ns)) (beside_nothing (map string_bytes c.as_slice-unpublished.result.now))
+    ∙ ap (λ names. with_all next (messages_in (publisher_of s) w (map string_bytes names))) c.as_slice-unpublished.ensures.value in
     subst (λ phase. IsSettling phase s (with_found s w unpublished edited) old now) (sym running)
     (published_whole s w others unpublished edited old next now c.in_ok-self.ensures.settled c.in_ok-self.ensures.names more sent
     (ap (map string_bytes) c.clear-2.ensures.items) (ap (map string_bytes) c.clear.ensures.items))

@@ -1,0 +1,109 @@
+-- Which findings the ignores of a template silence, and which ignores silence none.
+use Rattle.std.specs.Prelude.{◌≡◌, ◌↔◌, ◌+◌, ◌-◌, ◌^◌, min, ℕ, List, [], ◌++◌, Bool, true, false, not, ◌&&◌, ◌||◌, ◌==◌, if◌then◌else◌, codes, map, String, Option}
+use Rattle.std.specs.declared.alloc.Global.{Global}
+use Rattle.std.specs.BTreeMap.{BTreeMap}
+use Rattle.std.specs.BTreeSet.{BTreeSet}
+use Rattle.std.specs.List.{Contains, filter, find, list_any}
+use Rattle.std.specs.Option.{is_some, option_map_or}
+use Rattle.std.specs.Str.{bytes_eq}
+use Rattle.tera_check.specs.Findings.{FindingVal, FindingOf, FoundAs, all_kinds, kind_name}
+use Rattle.tera_check.specs.Ignores.{IgnoreVal, ignores_view}
+use Rattle.tera_check.specs.Lost.{places_under}
+use Rattle.tera_check.specs.declared.finding.Kind.{Kind}
+use Rattle.tera_check.specs.declared.finding.Kind.TheVariants as kinds
+use Rattle.tera_check.specs.declared.templates.Template.{Template}
+
+-- the line after a comment
+abbrev pub next_line : IgnoreVal → ℕ
+next_line i = min (i.span.end_line + 1) (2 ^ 64 - 1)
+
+-- An ignore covers the line on which its comment begins, and if that is alone on its lines, the line after it.
+abbrev pub covers : IgnoreVal → ℕ → Bool
+covers i line = (i.span.start_line == line) || (i.alone && (next_line i == line))
+
+-- it covers the line for a rule, and a finding of the rule that begins on the line
+abbrev pub silences_at : IgnoreVal → List ℕ → ℕ → Bool
+silences_at i rule line = bytes_eq i.rule rule && covers i line
+
+abbrev pub silences : IgnoreVal → FindingVal → Bool
+silences i (FoundAs kind severity span text notes) = silences_at i (kind_name kind) span.start_line
+
+-- some of the ignores do
+abbrev pub is_silenced_at : List IgnoreVal → List ℕ → ℕ → Bool
+is_silenced_at is rule line = list_any (λ i. silences_at i rule line) is
+
+abbrev pub is_silenced : Template → FindingVal → Bool
+is_silenced t f = list_any (λ i. silences i f) (ignores_view t.ignores.items)
+
+-- ---- ignores that silence nothing
+
+-- the kind whose word is the rule
+abbrev pub kind_named : List ℕ → Option Kind
+kind_named rule = find (λ kind. bytes_eq (kind_name kind) rule) all_kinds
+
+-- findings of the kind depend on what other files define, on the names of templates or on what a program registers, which
+-- may not be known
+abbrev pub depends_on_others : Kind → Bool
+depends_on_others kinds.DefinedAgain = true
+depends_on_others kinds.MissingArgument = true
+depends_on_others kinds.UnknownArgument = true
+depends_on_others kinds.WrongType = true
+depends_on_others kinds.MissingTemplate = true
+depends_on_others kinds.CircularExtends = true
+depends_on_others kinds.CircularInclude = true
+depends_on_others kinds.UndefinedBlock = true
+depends_on_others kinds.SuperWithoutParent = true
+depends_on_others kinds.UnknownFilter = true
+depends_on_others kinds.UnknownTest = true
+depends_on_others kinds.UnknownFunction = true
+depends_on_others _ = false
+
+abbrev pub is_undefined_kind : Kind → Bool
+is_undefined_kind kinds.UndefinedComponent = true
+is_undefined_kind _ = false
+
+-- all findings of the kind are known, if the template has no fault; `open_text` where a text may define more components
+abbrev pub is_known_kind : Bool → Kind → Bool
+is_known_kind open_text kind = not (depends_on_others kind) && not (open_text && is_undefined_kind kind)
+
+-- so an ignore can be reported: also one whose rule does not exist
+abbrev pub is_judged : Bool → List ℕ → Bool
+is_judged open_text rule = option_map_or (is_known_kind open_text) (kind_named rule) true
+
+abbrev pub is_unused : Bool → List FindingVal → IgnoreVal → Bool
+is_unused open_text found i = is_judged open_text i.rule && not (list_any (silences i) found)
+
+-- the finding, at the comment
+abbrev pub no_finding_text : List ℕ → List ℕ
+no_finding_text rule = codes "No finding of the rule `" ++ (rule ++ codes "` is silenced here")
+
+abbrev pub no_rule_text : List ℕ → List ℕ
+no_rule_text rule = codes "No rule is named `" ++ (rule ++ codes "`")
+
+abbrev pub unused_ignore_text : List ℕ → List ℕ
+unused_ignore_text rule = if is_some (kind_named rule) then no_finding_text rule else no_rule_text rule
+
+abbrev pub unused_ignore : IgnoreVal → FindingVal
+unused_ignore i = FindingOf kinds.UnusedIgnore i.span (unused_ignore_text i.rule) []
+
+-- of a template without a fault, beside all that is found in its tree
+abbrev pub unused_among : Bool → List FindingVal → List IgnoreVal → List FindingVal
+unused_among open_text found is = map unused_ignore (filter (is_unused open_text found) is)
+
+abbrev pub unused_ignores : Bool → Template → List FindingVal → List FindingVal
+unused_ignores open_text t found = if is_some t.mended then [] else unused_among open_text found (ignores_view t.ignores.items)
+
+-- ---- lines under the words for rules: those that ignores cover, and those on which findings begin
+
+abbrev pub Lines : Type 0
+Lines = BTreeMap (String Global) (BTreeSet ℕ)
+
+abbrev pub AreLinesOf : (List ℕ → ℕ → Bool) → Lines → Type 0
+AreLinesOf has lines = (rule : List ℕ) (line : ℕ) → Contains (places_under lines rule) line ↔ (has rule line ≡ true)
+
+-- a finding of the rule begins on the line
+abbrev pub begins_at : List ℕ → ℕ → FindingVal → Bool
+begins_at rule line (FoundAs kind severity span text notes) = bytes_eq rule (kind_name kind) && (line == span.start_line)
+
+abbrev pub has_finding_at : List FindingVal → List ℕ → ℕ → Bool
+has_finding_at found rule line = list_any (begins_at rule line) found

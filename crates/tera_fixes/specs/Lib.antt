@@ -1,0 +1,9 @@
+pub mod All
+pub mod Attributes
+pub mod Better
+pub mod Edited
+pub mod Laws
+pub mod Meant
+pub mod Names
+pub mod Parts
+pub mod Suggestions

@@ -1,0 +1,103 @@
+//! What is suggested for the findings of a template.
+
+ghost use Rattle.std.specs.Prelude.{◌≡◌, ◌∷◌, ◌++◌, List, map, IfOk};
+ghost use Rattle.std.specs.Option.{option_map};
+ghost use Rattle.tera_check.specs.Named.{tree_of};
+ghost use Rattle.tera_check.specs.declared.finding.Finding.{Finding as AFinding};
+ghost use Rattle.tera_fixes.specs.All.{AreCallsIn, AreSuggestedIn, is_suggestible, is_wanted, suggested};
+ghost use Rattle.tera_fixes.specs.Suggestions.{context_view, suggestion_view};
+
+use crate::suggestions::{Context, Suggestion, suggestion_of};
+use std::alloc::{AllocError, Global};
+use tera_check::{Catalogue, Finding, Kind, Template, calls_of, tree_of};
+use tera_parser::ast::ComponentCall;
+use tera_parser::value::Spanned;
+
+/// For how many findings of a template something is suggested at most: for each of them all names are compared.
+const MOST: usize = 100;
+
+/// What is suggested for each of the findings of the template, which has this source: for the first 100 of a kind for which
+/// something may be suggested, and nothing for all others.
+pub fn suggestions_in(
+    alloc: Global,
+    catalogue: &Catalogue<'_>,
+    template: &Template,
+    source: &str,
+    findings: &[&Finding],
+) -> Result<Vec<Option<Suggestion>>, AllocError>
+    ensures { IfOk result (λ v. AreSuggestedIn catalogue.now template.now source.now
+        (map (λ f. f.now) findings.now) (map (option_map suggestion_view) v.items)) }
+{
+    let calls = calls_in(alloc, template)?;
+    let context = Context {
+        catalogue,
+        calls: calls.as_slice(),
+        source,
+    };
+    suggestions_for(alloc, context, findings)
+}
+
+// The calls in the tree of the template, if it has one.
+fn calls_in(alloc: Global, template: &Template) -> Result<Vec<&Spanned<ComponentCall>>, AllocError>
+    ensures { IfOk result (λ calls. AreCallsIn (tree_of template.now) calls.items) }
+{
+    match tree_of(template) {
+        Some(output) => calls_of(alloc, output),
+        None => Ok(Vec::new(alloc)),
+    }
+}
+
+fn suggestions_for(
+    alloc: Global,
+    context: Context<'_, '_>,
+    findings: &[&Finding],
+) -> Result<Vec<Option<Suggestion>>, AllocError>
+    ensures { IfOk result (λ v. map (option_map suggestion_view) v.items
+        ≡ suggested (context_view context.entry) 100 (map (λ f. f.now) findings.now)) }
+{
+    let mut suggestions = Vec::new(alloc);
+    let mut left = MOST;
+    for finding in findings {
+        left = push_if_left(alloc, &mut suggestions, context, left, finding)?;
+    }
+    Ok(suggestions)
+}
+
+// Adds what is suggested for the finding, if something may be and so many are left. The answer is how many are left then.
+fn push_if_left(
+    alloc: Global,
+    suggestions: &mut Vec<Option<Suggestion>>,
+    context: Context<'_, '_>,
+    left: usize,
+    finding: &Finding,
+) -> Result<usize, AllocError>
+    ensures { IfOk result (λ then. (rest : List AFinding) →
+        map (option_map suggestion_view) suggestions.new.items
+        ++ suggested (context_view context.entry) then rest
+        ≡ map (option_map suggestion_view) suggestions.old.items
+        ++ suggested (context_view context.entry) left (finding.now ∷ rest)) }
+{
+    if !is_wanted(left, finding.kind) {
+        suggestions.push(None)?;
+        return Ok(left);
+    }
+    let suggestion = suggestion_of(alloc, context, finding)?;
+    suggestions.push(suggestion)?;
+    Ok(left.saturating_sub(1))
+}
+
+fn is_wanted(left: usize, kind: Kind) -> bool
+    ensures { result ≡ is_wanted left kind }
+{
+    0 < left && is_suggestible(kind)
+}
+
+// Whether something may be suggested for a finding of the kind.
+fn is_suggestible(kind: Kind) -> bool
+    ensures { result ≡ is_suggestible kind }
+{
+    matches!(
+        kind,
+        Kind::UndefinedComponent | Kind::UnknownArgument | Kind::RepeatedArgument
+    )
+}

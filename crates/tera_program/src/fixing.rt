@@ -1,0 +1,276 @@
+//! What is found in templates, put right in their files.
+
+ghost use Rattle.std.specs.Prelude.{◌≡◌, ◌&&◌, IfOk, IfSome, filter, map};
+ghost use Rattle.std.specs.List.{list_any};
+ghost use Rattle.std.specs.Option.{is_some};
+ghost use Rattle.tera_lexer.specs.grammar.Marks.{IsValid, marks_of};
+ghost use Rattle.tera_check.specs.Levels.{level_of};
+ghost use Rattle.tera_program.specs.Fixing.{IsFixOf, IsReadFix, is_corrected, takes};
+ghost use Rattle.tera_program.specs.Sources.{marks_in};
+
+use crate::job::Check;
+use crate::output::print_unwritten;
+use crate::reading::{Reading, Templates, template_of};
+use std::alloc::{AllocError, Global};
+use std::rt::Files;
+use tera_check::{Catalogue, Finding, Kind, Levels, Template, catalogue_of, findings_of, is_open};
+use tera_files::{Source, replace};
+use tera_fixes::{Suggestion, edited, fewer_in, suggestions_in};
+
+/// What was put right.
+#[derive(Clone, Copy, Debug)]
+pub(crate) struct Fixed {
+    /// How many findings there are fewer.
+    pub(crate) findings: usize,
+    /// In how many files.
+    pub(crate) files: usize,
+    /// How many files could not be written.
+    pub(crate) failed: usize,
+}
+
+// Another text for a file.
+#[derive(Drop)]
+struct Fix {
+    /// The number of its template.
+    number: usize,
+    text: String,
+    /// What it is read as.
+    template: Template,
+    /// How many findings it has fewer.
+    fewer: usize,
+}
+
+/// Writes what is suggested for the files that are checked: for those of the findings that are reported. The templates and
+/// the sources are then those of the files. Standard error says which file could not be written; it stays as it was.
+pub(crate) fn fix_all<R: Files + Eprint + AllocGlobal>(
+    rt: &R,
+    job: &Check<'_, '_>,
+    reading: &Reading,
+    all: &mut Templates,
+) -> Result<Fixed, AllocError>
+    requires { IfSome reading.now.markers (λ m. IsValid (marks_of m)) }
+{
+    let mut fixed = Fixed {
+        findings: 0,
+        files: 0,
+        failed: 0,
+    };
+    for fix in fixes_of(rt.alloc(), job.rules, reading, all)? {
+        let fewer = fix.fewer;
+        if put(rt, fix, all) {
+            fixed.findings = fixed.findings.saturating_add(fewer);
+            fixed.files = fixed.files.saturating_add(1);
+        } else {
+            fixed.failed = fixed.failed.saturating_add(1);
+        }
+    }
+    Ok(fixed)
+}
+
+// Writes the text of a fix, and keeps what it is read as. The answer is whether that went well.
+fn put<R: Files + Eprint + AllocGlobal>(rt: &R, fix: Fix, all: &mut Templates) -> bool {
+    let (Some(template), Some(source)) = (
+        all.templates.get_mut(fix.number),
+        all.sources.get_mut(fix.number),
+    ) else {
+        return false;
+    };
+    let written = replace(
+        rt,
+        source.file.as_str(),
+        source.text.as_str(),
+        fix.text.as_str(),
+    );
+    match written {
+        Ok(()) => {
+            source.text = fix.text;
+            *template = fix.template;
+            true
+        }
+        Err(why) => {
+            print_unwritten(rt, source.file.as_str(), why);
+            false
+        }
+    }
+}
+
+// The templates that are checked, and what is known of their components.
+#[derive(Clone, Copy)]
+struct Known<'c, 'a> {
+    catalogue: &'c Catalogue<'a>,
+    /// Whether there may be more components: a template has a fault that may hide one, or a file could not be read.
+    is_open: bool,
+}
+
+// The fixes of the files that are checked.
+fn fixes_of(
+    alloc: Global,
+    rules: Levels<'_, '_>,
+    reading: &Reading,
+    all: &Templates,
+) -> Result<Vec<Fix>, AllocError>
+    requires { IfSome reading.now.markers (λ m. IsValid (marks_of m)) }
+{
+    let catalogue = catalogue_of(alloc, &all.templates)?;
+    let known = Known {
+        catalogue: &catalogue,
+        is_open: !all.unread.is_empty() || all.templates.iter().any(|template| is_open(template)),
+    };
+    let mut fixes = Vec::new(alloc);
+    for (number, template) in all.templates.iter().enumerate() {
+        if all.checked <= number {
+            return Ok(fixes);
+        }
+        let Some(source) = all.sources.get(number) else {
+            return Ok(fixes);
+        };
+        if let Some(fix) = fix_of(alloc, rules, reading, known, number, template, source)? {
+            fixes.push(fix)?;
+        }
+    }
+    Ok(fixes)
+}
+
+// Of which findings the suggestions are taken together.
+#[derive(Clone, Copy)]
+enum Choice {
+    All,
+    // What is found in the arguments of calls.
+    Arguments,
+    // What is found of the names of calls.
+    Components,
+}
+
+impl Choice {
+    ghost use Rattle.std.specs.Prelude.{◌≡◌};
+    ghost use Rattle.tera_program.specs.Fixing.{takes};
+
+    fn takes(self, kind: Kind) -> bool
+        ensures { result ≡ takes self kind }
+    {
+        match self {
+            Choice::All => true,
+            Choice::Arguments => kind != Kind::UndefinedComponent,
+            Choice::Components => kind == Kind::UndefinedComponent,
+        }
+    }
+}
+
+// The fix of a template, if it has a tree, the source is that of its file, and a text with what is suggested for it is
+// better: with all that is suggested, or else for arguments alone or for components alone, as the one may show what is
+// wrong with the other.
+#[tactic(auto, using(crate::proofs::FixingLemmas::fix_of_found))]
+fn fix_of(
+    alloc: Global,
+    rules: Levels<'_, '_>,
+    reading: &Reading,
+    known: Known<'_, '_>,
+    number: usize,
+    template: &Template,
+    source: &Source,
+) -> Result<Option<Fix>, AllocError>
+    requires { IfSome reading.now.markers (λ m. IsValid (marks_of m)) }
+    ensures { IfOk result (λ fix. IfSome fix (IsFixOf known.entry.catalogue.now known.entry.is_open
+        (marks_in reading.now.markers) reading.now.faults rules.entry number template.now source.now)) }
+{
+    if template.parsed.is_err() || template.file != source.file {
+        return Ok(None);
+    }
+    let found = findings_of(alloc, known.catalogue, known.is_open, number, template)?;
+    for choice in [Choice::All, Choice::Arguments, Choice::Components] {
+        let reported = reported_of(alloc, rules, choice, &found)?;
+        let before = Before {
+            number,
+            template,
+            source,
+            found: &found,
+        };
+        let fix = fix_by(alloc, reading, known, before, reported.as_slice())?;
+        if fix.is_some() {
+            return Ok(fix);
+        }
+    }
+    Ok(None)
+}
+
+// A template as it is, and what is found in it.
+#[derive(Clone, Copy)]
+struct Before<'t> {
+    number: usize,
+    template: &'t Template,
+    source: &'t Source,
+    found: &'t Vec<Finding>,
+}
+
+// The fix with what is suggested for these findings, if it is better.
+#[tactic(auto, using(crate::proofs::FixingLemmas::read_fix))]
+fn fix_by(
+    alloc: Global,
+    reading: &Reading,
+    known: Known<'_, '_>,
+    before: Before<'_>,
+    findings: &[&Finding],
+) -> Result<Option<Fix>, AllocError>
+    requires { IfSome reading.now.markers (λ m. IsValid (marks_of m)) }
+    ensures { IfOk result (λ fix. IfSome fix (IsReadFix known.entry.catalogue.now known.entry.is_open
+        (marks_in reading.now.markers) reading.now.faults before.entry.number
+        before.entry.template.now before.entry.source.now (map (λ f. f.now) findings.now)
+        before.entry.found.now.items)) }
+{
+    let old_text = before.source.text.as_str();
+    let suggestions = suggestions_in(alloc, known.catalogue, before.template, old_text, findings)?;
+    if !has_any(&suggestions) {
+        return Ok(None);
+    }
+    let text = edited(alloc, old_text, suggestions.as_slice())?;
+    let file = before.source.file.as_str();
+    let template = template_of(alloc, file, text.as_str(), reading)?;
+    let fewer = fewer_in(
+        alloc,
+        known.catalogue,
+        known.is_open,
+        before.number,
+        &template,
+        before.found.as_slice(),
+    )?;
+    match fewer {
+        Some(fewer) => Ok(Some(Fix {
+            number: before.number,
+            text,
+            template,
+            fewer,
+        })),
+        None => Ok(None),
+    }
+}
+
+fn has_any(suggestions: &Vec<Option<Suggestion>>) -> bool
+    ensures { result ≡ list_any (λ suggestion. is_some suggestion) suggestions.now.items }
+{
+    suggestions.iter().any(|suggestion| suggestion.is_some())
+}
+
+// Those of the findings that are reported and taken.
+fn reported_of<'f>(
+    alloc: Global,
+    rules: Levels<'_, '_>,
+    choice: Choice,
+    found: &'f Vec<Finding>,
+) -> Result<Vec<&'f Finding>, AllocError>
+    ensures { IfOk result (λ reported. map (λ f. f.now) reported.items
+        ≡ filter (is_corrected rules.entry choice) found.now.items) }
+{
+    let mut reported = Vec::new(alloc);
+    for finding in found {
+        if is_corrected(rules, choice, finding.kind) {
+            reported.push(finding)?;
+        }
+    }
+    Ok(reported)
+}
+
+fn is_corrected(rules: Levels<'_, '_>, choice: Choice, kind: Kind) -> bool
+    ensures { result ≡ (is_some (level_of rules.entry kind) && takes choice kind) }
+{
+    rules.level(kind).is_some() && choice.takes(kind)
+}

@@ -1,0 +1,133 @@
+-- A server after the steps by which it is given settings.
+use Rattle.std.proofs.Common.{◌≡◌, ◌∙◌, ◌⊎◌, inl, inr, ◌++◌, ◌∷◌, [], ℕ, List, Bool, true, false, cond, length, map, String, string_bytes, Result, Ok, Err, OnOk, OnErr, Option, refl, sym, ap, subst, append_assoc}
+use Rattle.std.proofs.Common.{if◌then◌else◌}
+use Rattle.std.proofs.lemmas.Bool.Decides.{Decides-eqb}
+use Rattle.std.proofs.lemmas.List.{append-nil, nil_from_length}
+use Rattle.std.proofs.lemmas.Slice.Eq.{bytes_eq-Decides}
+use Rattle.std.specs.Prelude.{◌&&◌, ◌==◌}
+use Rattle.std.specs.List.{list_any}
+use Rattle.std.specs.Option.{option_eq}
+use Rattle.std.specs.Cmp.Lexicographic.{pointwise}
+use Rattle.std.specs.Str.{bytes_eq}
+use Rattle.std.specs.String.{string_eq}
+use Rattle.std.specs.declared.alloc.Global.{Global}
+use Rattle.tera_server.specs.Configuring.{AreFoundSet, ArePublishedAgain, IsConfiguredBy, IsUnconfigured, settings_by}
+use Rattle.tera_server.specs.Sending.{unpublished_of}
+use Rattle.tera_server.specs.Settings.{settings_in}
+use Rattle.tera_server.specs.States.{Grows, edited_by, edited_of, with_name}
+use Rattle.tera_server.specs.UnreadFiles.{ReasonVal, is_same, why_of}
+use Rattle.tera_server.specs.declared.configuring.FoundSettings.{FoundSettings}
+use Rattle.tera_server.specs.declared.server.Server.{Server}
+
+both_true : (a b : Bool) → (a && b) ≡ true → (a ≡ true) × (b ≡ true)
+both_true true b is = (refl, is)
+both_true false b is = absurd (cc)
+
+pub and_both : {T E : Type 0} (P Q : Type 0) (r : Result T E) → OnOk r P → OnOk r Q → OnOk r (P × Q)
+and_both P Q (Ok x) p q = (p, q)
+and_both P Q (Err e) p q = tt
+
+-- ---- lists that grow
+
+pub grows_same : {A : Type 0} (xs : List A) → Grows xs xs
+grows_same xs = ([], sym (append-nil xs))
+
+pub grows_on : {A : Type 0} (xs ys zs : List A) → Grows xs ys → Grows ys zs → Grows xs zs
+grows_on xs ys zs (more, is) (rest, then_is) = (more ++ rest, then_is ∙ ap (λ us. us ++ rest) is ∙ append_assoc xs more rest)
+
+pub grows_to : {A : Type 0} (xs ys zs : List A) → ys ≡ zs → Grows xs ys → Grows xs zs
+grows_to xs ys zs same h = subst (Grows xs) same h
+
+pub grows_named : (n : List ℕ) (ns : List (List ℕ)) → Grows ns (with_name n ns)
+grows_named n ns = by (list_any (λ m. bytes_eq m n) ns)
+  where
+    by : (b : Bool) → Grows ns (if b then ns else ns ++ n ∷ [])
+    by true = grows_same ns
+    by false = (n ∷ [], refl)
+
+grows_by : (path : List ℕ) (why : Option ReasonVal) (s : Server) → Grows (edited_of s) (edited_by path why s)
+grows_by path why s = by (option_eq is_same (why_of s.unread path) why)
+  where
+    by : (b : Bool) → Grows (edited_of s) (if b then edited_of s else with_name path (edited_of s))
+    by true = grows_same (edited_of s)
+    by false = grows_named path (edited_of s)
+
+-- .. by a reason that is set, or is not
+pub reason_grows : {E : Type 0} (r : Result (Unit {0}) E) (path : List ℕ) (why : Option ReasonVal) (s t : Server) → OnOk r (edited_of t ≡ edited_by path why s)
+    → OnErr r ((edited_of t ≡ edited_of s) ⊎ (edited_of t ≡ with_name path (edited_of s))) → Grows (edited_of s) (edited_of t)
+reason_grows (Ok x) path why s t ok err = subst (Grows (edited_of s)) (sym ok) (grows_by path why s)
+reason_grows (Err x) path why s t ok err = elim err [
+  | inl same ↦ subst (Grows (edited_of s)) (sym same) (grows_same (edited_of s))
+  | inr named ↦ subst (Grows (edited_of s)) (sym named) (grows_named path (edited_of s))
+]
+
+-- .. by names that are to be published
+pub published_grows : {E : Type 0} (r : Result (Unit {0}) E) (s t : Server) (more : List (List ℕ)) → OnOk r (unpublished_of t ≡ unpublished_of s ++ more)
+    → OnErr r (unpublished_of t ≡ unpublished_of s) → Grows (unpublished_of s) (unpublished_of t)
+published_grows (Ok x) s t more ok err = (more, ok)
+published_grows (Err x) s t more ok err = subst (Grows (unpublished_of s)) (sym err) (grows_same (unpublished_of s))
+
+-- ---- what a map has at the name that was set
+
+pub at_itself : {X : Type 0} (n : List ℕ) (x y : X) → cond (bytes_eq n n) x y ≡ x
+at_itself n x y = ap (λ b. cond b x y) ((bytes_eq-Decides n n).1 refl)
+
+pub cond_same : {X : Type 0} (b : Bool) (x : X) → x ≡ cond b x x
+cond_same true x = refl
+cond_same false x = refl
+
+-- ---- texts of two lists
+
+pub none_left : (xs : List (String Global)) → (length xs == 0) ≡ true → map string_bytes xs ≡ []
+none_left xs is = ap (map string_bytes) (nil_from_length xs ((Decides-eqb (length xs) 0).0 is))
+
+-- the same, where they are equal one by one
+pub same_texts : (xs ys : List (String Global)) → pointwise string_eq xs ys ≡ true → map string_bytes xs ≡ map string_bytes ys
+same_texts [] [] is = refl
+same_texts [] (y ∷ ys) is = absurd (cc)
+same_texts (x ∷ xs) [] is = absurd (cc)
+same_texts (x ∷ xs) (y ∷ ys) is =
+    let (one, rest) = both_true (string_eq x y) (pointwise string_eq xs ys) is in
+    λ i. (bytes_eq-Decides (string_bytes x) (string_bytes y)).0 one i ∷ same_texts xs ys rest i
+
+-- ---- steps after another
+
+module _ (s a b t : Server) (first : a ≡ record s { unpublished = a.unpublished }) (second : b ≡ record a { unread = b.unread; edited = b.edited })
+    (third : t ≡ record b { settings = t.settings; unread = t.unread; edited = t.edited }) where
+  abbrev with_those : Server → Server
+  with_those x = record x { settings = t.settings; unread = t.unread; edited = t.edited }
+
+  pub unpublished_is : t.unpublished ≡ a.unpublished
+  unpublished_is = ap (λ x. x.unpublished) third ∙ ap (λ x. x.unpublished) second
+
+  pub settings_are : b.settings ≡ s.settings
+  settings_are = ap (λ x. x.settings) second ∙ ap (λ x. x.settings) first
+
+  edited_is : edited_of a ≡ edited_of s
+  edited_is = ap edited_of first
+
+  pub same_but : t ≡ record s { settings = t.settings; unread = t.unread; edited = t.edited; unpublished = t.unpublished }
+  same_but =
+      third ∙ ap with_those second ∙ ap with_those first
+      ∙ ap (λ u. record s { settings = t.settings; unread = t.unread; edited = t.edited; unpublished = u }) (sym unpublished_is)
+
+  pub unconfigured : Grows (unpublished_of s) (unpublished_of a) → Grows (edited_of a) (edited_of b) → Grows (edited_of b) (edited_of t) → IsUnconfigured s t
+  unconfigured published edited more = record {
+    same = same_but;
+    edited = subst (λ ns. Grows ns (edited_of t)) edited_is (grows_on (edited_of a) (edited_of b) (edited_of t) edited more);
+    unpublished = grows_to (unpublished_of s) (unpublished_of a) (unpublished_of t) (ap (λ u. map string_bytes u.items) (sym unpublished_is)) published;
+  }
+
+  pub configured : (folder : List ℕ) (found : FoundSettings) → IsUnconfigured s t → AreFoundSet folder found b t → ArePublishedAgain folder found s a → IsConfiguredBy folder found s t
+  configured folder found rest h published = record {
+    rest = rest;
+    set = record {
+      settings = λ f. h.settings f ∙ ap (λ x. cond (bytes_eq folder f) (settings_by found (settings_in x f)) (settings_in x f)) settings_are;
+      file = h.file;
+      why = h.why;
+    };
+    published = elim published [
+      | inl kept ↦ inl (kept.0, ap (λ u. map string_bytes u.items) unpublished_is ∙ kept.1)
+      | inr more ↦ inr (ap (λ u. map string_bytes u.items) unpublished_is ∙ more)
+    ];
+  }

@@ -1,0 +1,67 @@
+-- What settings of a folder change.
+use Rattle.std.specs.Prelude.{◌≡◌, ◌⊎◌, ◌++◌, ◌&&◌, ◌==◌, ℕ, List, Bool, cond, filter, length, map, not, string_bytes, Option, None, Some, IfSome}
+use Rattle.std.specs.List.{flat_map}
+use Rattle.std.specs.Str.{bytes_eq}
+use Rattle.tera_workspace.specs.Definitions.{texts_read}
+use Rattle.tera_workspace.specs.Workspaces.{reported_of_name}
+use Rattle.tera_workspace.specs.declared.workspace.Workspace.{Workspace}
+use Rattle.tera_server.specs.Sending.{unpublished_of}
+use Rattle.tera_server.specs.Settings.{SettingsVal, file_in, off_of, settings_in, settings_view}
+use Rattle.tera_server.specs.States.{Grows, edited_of, needed_of, needs}
+use Rattle.tera_server.specs.Templates.{is_inside}
+use Rattle.tera_server.specs.UnreadFiles.{ReasonVal, reason_view, why_of}
+use Rattle.tera_server.specs.declared.configuring.FoundSettings.{FoundSettings}
+use Rattle.tera_server.specs.declared.configuring.FoundSettings.TheVariants as found_as
+use Rattle.tera_server.specs.declared.notes.NeededKind.TheVariants.{Folder}
+use Rattle.tera_server.specs.declared.server.Server.{Server}
+
+-- a document is in a folder, and something was reported of it
+abbrev pub is_reported_inside : Workspace → List ℕ → List ℕ → Bool
+is_reported_inside w folder n = is_inside folder n && not (length (reported_of_name w n) == 0)
+
+-- the file in which settings are, and what is wrong in it
+abbrev pub file_found : FoundSettings → Option (List ℕ)
+file_found found_as.Nothing = None
+file_found (found_as.Set file settings) = Some (string_bytes file)
+file_found (found_as.Wrong file why) = Some (string_bytes file)
+
+abbrev pub why_found : FoundSettings → Option ReasonVal
+why_found (found_as.Wrong file why) = Some (reason_view why)
+why_found _ = None
+
+-- the settings then, by those before: if they are wrong, those stay
+abbrev pub settings_by : FoundSettings → Option SettingsVal → Option SettingsVal
+settings_by found_as.Nothing old = None
+settings_by (found_as.Set file settings) old = Some (settings_view settings)
+settings_by (found_as.Wrong file why) old = old
+
+-- nothing changes but settings, what is known of files, and what is to be published, which stays so
+pub record IsUnconfigured (s t : Server) : Type 0 where
+  pub same : t ≡ record s { settings = t.settings; unread = t.unread; edited = t.edited; unpublished = t.unpublished }
+  pub edited : Grows (edited_of s) (edited_of t)
+  pub unpublished : Grows (unpublished_of s) (unpublished_of t)
+
+-- what was reported in a folder is to be published, unless the same rules are off as before
+abbrev pub ArePublishedAgain : List ℕ → FoundSettings → Server → Server → Type 0
+ArePublishedAgain folder found s t =
+    let old = settings_in s.settings folder in
+    ((off_of (settings_by found old) ≡ off_of old) × (unpublished_of t ≡ unpublished_of s))
+    ⊎ (unpublished_of t ≡ unpublished_of s ++ filter (is_reported_inside s.workspace folder) (map (λ d. d.name) (texts_read s.workspace)))
+
+-- They are the settings of the folder, and those of other folders are what they were; and what is wrong in their file is
+-- known.
+pub record AreFoundSet (folder : List ℕ) (found : FoundSettings) (s t : Server) : Type 0 where
+  pub settings : (f : List ℕ) → settings_in t.settings f ≡ cond (bytes_eq folder f) (settings_by found (settings_in s.settings f)) (settings_in s.settings f)
+  pub file : file_in t.settings folder ≡ file_found found
+  pub why : IfSome (file_found found) (λ file. why_of t.unread file ≡ why_found found)
+
+-- These settings were found for a folder.
+pub record IsConfiguredBy (folder : List ℕ) (found : FoundSettings) (s t : Server) : Type 0 where
+  pub rest : IsUnconfigured s t
+  pub set : AreFoundSet folder found s t
+  pub published : ArePublishedAgain folder found s t
+
+-- the folders that are open are asked for again
+pub record AreAsked (s t : Server) : Type 0 where
+  pub same : t ≡ record s { needed = t.needed }
+  pub asked : needed_of t ≡ needed_of s ++ flat_map (needs Folder) (map string_bytes s.folders.items)

@@ -1,0 +1,230 @@
+//! The settings of a folder, as they are given to a server.
+
+ghost use Rattle.std.specs.Prelude.{◌≡◌, ◌++◌, true, map, string_bytes, IfOk, OnOk, OnErr};
+ghost use Rattle.std.specs.List.{filter, flat_map};
+ghost use Rattle.tera_workspace.specs.Definitions.{texts_read};
+ghost use Rattle.tera_server.specs.Configuring.{AreFoundSet, ArePublishedAgain, IsConfiguredBy, IsUnconfigured, is_reported_inside, settings_by};
+ghost use Rattle.tera_server.specs.Sending.{unpublished_of};
+ghost use Rattle.tera_server.specs.Settings.{is_in_library, off_of, settings_for, settings_in, settings_view};
+ghost use Rattle.tera_server.specs.States.{Grows, edited_of, needed_of, needs};
+ghost use Rattle.tera_server.specs.UnreadFiles.{reason_view, why_of};
+ghost use Rattle.tera_server.specs.declared.configuring.FoundSettings.TheVariants as found_as;
+ghost use Rattle.tera_server.specs.declared.notes.NeededKind.TheVariants.{Folder};
+
+use crate::notes::{NeededKind, need_all};
+use crate::server::Server;
+use crate::settings::FolderSettings;
+use crate::templates::is_inside;
+use crate::unread::Reason;
+use std::alloc::{AllocError, Global};
+use tera_workspace::Workspace;
+
+/// What is found of the settings that count for a folder.
+#[derive(Debug, Drop)]
+pub enum FoundSettings {
+    /// There is no file of settings.
+    Nothing,
+    /// The file of this path has these.
+    Set(String, FolderSettings),
+    /// The file of this path has none, for this reason. Those of the folder that were there stay.
+    Wrong(String, Reason),
+}
+
+impl Server {
+    ghost use Rattle.std.specs.Option.{option_map};
+
+    /// The settings that count for a file, or a folder, by the folders that are open.
+    pub fn settings_for(&self, path: &str) -> Option<&FolderSettings>
+        ensures { option_map (λ s. settings_view s.now) result
+            ≡ settings_for self.now.settings (map string_bytes self.now.folders.items) path.now }
+    {
+        self.settings.of(self.folders.as_slice(), path)
+    }
+
+    /// This was found for the folder, and counts for the files in it from now on. If other rules are off than before,
+    /// what was reported of these is published again. After an allocation failure a part of that may be so.
+    pub fn configure(
+        &mut self,
+        alloc: Global,
+        folder: &str,
+        found: FoundSettings,
+    ) -> Result<(), AllocError>
+        ensures configured { OnOk result (IsConfiguredBy folder.now found self.old self.new) }
+        ensures err { OnErr result (IsUnconfigured self.old self.new) }
+    {
+        self.publish_if_others(alloc, folder, &found)?;
+        self.forget_file(alloc, folder)?;
+        self.set_found(alloc, folder, found)
+    }
+
+    /// Whether the file is one of a library.
+    pub fn is_in_library(&self, path: &str) -> bool
+        ensures { result ≡ is_in_library self.now.settings path.now }
+    {
+        self.settings.is_in_library(path)
+    }
+
+    /// The folders that are open are asked for again, as other settings may count for them.
+    pub fn ask_for_folders(&mut self, alloc: Global) -> Result<(), AllocError>
+        ensures same { self.new ≡ record self.old { needed = self.new.needed } }
+        ensures asked { OnOk result (needed_of self.new ≡ needed_of self.old
+            ++ flat_map (needs Folder) (map string_bytes self.old.folders.items)) }
+        ensures grows { Grows (needed_of self.old) (needed_of self.new) }
+    {
+        need_all(
+            alloc,
+            NeededKind::Folder,
+            self.folders.as_slice(),
+            &mut self.needed,
+        )
+    }
+
+    // Whether by what was found the same rules are off in the folder as before.
+    fn keeps_rules(&self, folder: &str, found: &FoundSettings) -> bool
+        ensures { let old = settings_in self.now.settings folder.now in
+            result ≡ true → off_of (settings_by found.now old) ≡ off_of old }
+    {
+        let off = self.settings.off_in(folder);
+        match found {
+            FoundSettings::Nothing => off.is_empty(),
+            FoundSettings::Set(_, settings) => off == settings.off.as_slice(),
+            FoundSettings::Wrong(_, _) => true,
+        }
+    }
+
+    // Where other rules are off, what was reported of the files in the folder is to be published.
+    fn publish_if_others(
+        &mut self,
+        alloc: Global,
+        folder: &str,
+        found: &FoundSettings,
+    ) -> Result<(), AllocError>
+        ensures same { self.new ≡ record self.old { unpublished = self.new.unpublished } }
+        ensures published { OnOk result (ArePublishedAgain folder.now found.now self.old self.new) }
+        ensures grows { Grows (unpublished_of self.old) (unpublished_of self.new) }
+    {
+        if self.keeps_rules(folder, found) {
+            Ok(())
+        } else {
+            self.publish_again(alloc, folder)
+        }
+    }
+
+    fn publish_again(&mut self, alloc: Global, folder: &str) -> Result<(), AllocError>
+        ensures same { self.new ≡ record self.old { unpublished = self.new.unpublished } }
+        ensures published { OnOk result (unpublished_of self.new ≡ unpublished_of self.old
+            ++ filter (is_reported_inside self.old.workspace folder.now)
+            (map (λ s. s.name) (texts_read self.old.workspace))) }
+        ensures err { OnErr result (unpublished_of self.new ≡ unpublished_of self.old) }
+    {
+        let mut names = reported_inside(alloc, &self.workspace, folder)?;
+        self.unpublished.append(&mut names)?;
+        Ok(())
+    }
+
+    // Nothing is known to be wrong in the file of settings that counted for the folder, unless it counts for another one.
+    fn forget_file(&mut self, alloc: Global, folder: &str) -> Result<(), AllocError>
+        ensures same { self.new ≡ record self.old { unread = self.new.unread; edited = self.new.edited } }
+        ensures grows { Grows (edited_of self.old) (edited_of self.new) }
+    {
+        match self.settings.own_file(folder) {
+            Some(file) => {
+                let file = String::from_str(alloc, file)?;
+                self.report_why(alloc, file.as_str(), None)
+            }
+            None => Ok(()),
+        }
+    }
+
+    fn set_found(
+        &mut self,
+        alloc: Global,
+        folder: &str,
+        found: FoundSettings,
+    ) -> Result<(), AllocError>
+        ensures same { self.new ≡ record self.old
+            { settings = self.new.settings; unread = self.new.unread; edited = self.new.edited } }
+        ensures set { OnOk result (AreFoundSet folder.now found self.old self.new) }
+        ensures grows { Grows (edited_of self.old) (edited_of self.new) }
+    {
+        match found {
+            FoundSettings::Nothing => {
+                self.settings.remove(folder);
+                Ok(())
+            }
+            FoundSettings::Set(file, settings) => self.set_settings(alloc, folder, file, settings),
+            FoundSettings::Wrong(file, why) => self.set_wrong(alloc, folder, file, why),
+        }
+    }
+
+    fn set_settings(
+        &mut self,
+        alloc: Global,
+        folder: &str,
+        file: String,
+        settings: FolderSettings,
+    ) -> Result<(), AllocError>
+        ensures same { self.new ≡ record self.old
+            { settings = self.new.settings; unread = self.new.unread; edited = self.new.edited } }
+        ensures set { OnOk result (AreFoundSet folder.now (found_as.Set file settings) self.old self.new) }
+        ensures grows { Grows (edited_of self.old) (edited_of self.new) }
+    {
+        self.report_why(alloc, file.as_str(), None)?;
+        self.settings.set(alloc, folder, file, settings)
+    }
+
+    fn set_wrong(
+        &mut self,
+        alloc: Global,
+        folder: &str,
+        file: String,
+        why: Reason,
+    ) -> Result<(), AllocError>
+        ensures same { self.new ≡ record self.old
+            { settings = self.new.settings; unread = self.new.unread; edited = self.new.edited } }
+        ensures set { OnOk result (AreFoundSet folder.now (found_as.Wrong file why) self.old self.new) }
+        ensures grows { Grows (edited_of self.old) (edited_of self.new) }
+    {
+        self.report_why(alloc, file.as_str(), Some(why))?;
+        self.settings.set_file(alloc, folder, file)
+    }
+
+    // This is wrong in a file of settings, or nothing is. Where that is something else than before, it is published.
+    fn report_why(
+        &mut self,
+        alloc: Global,
+        file: &str,
+        why: Option<Reason>,
+    ) -> Result<(), AllocError>
+        ensures same { self.new ≡ record self.old { unread = self.new.unread; edited = self.new.edited } }
+        ensures set { OnOk result (why_of self.new.unread file.now ≡ option_map reason_view why) }
+        ensures grows { Grows (edited_of self.old) (edited_of self.new) }
+    {
+        self.set_why(alloc, file, why)
+    }
+}
+
+// The names of the documents in the folder of which anything was reported.
+fn reported_inside(
+    alloc: Global,
+    workspace: &Workspace,
+    folder: &str,
+) -> Result<Vec<String>, AllocError>
+    ensures { IfOk result (λ v. map string_bytes v.items ≡ filter (is_reported_inside workspace.now folder.now)
+        (map (λ s. s.name) (texts_read workspace.now))) }
+{
+    let texts = workspace.texts(alloc)?;
+    let mut names = Vec::new(alloc);
+    for text in &texts {
+        if is_reported_inside(workspace, folder, text.file) {
+            names.push(String::from_str(alloc, text.file)?)?;
+        }
+    }
+    Ok(names)
+}
+
+fn is_reported_inside(workspace: &Workspace, folder: &str, name: &str) -> bool
+    ensures { result ≡ is_reported_inside workspace.now folder.now name.now }
+{
+    is_inside(folder, name) && !workspace.reported(name).is_empty()
+}
