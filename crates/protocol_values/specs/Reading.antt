@@ -16,11 +16,15 @@ position_in j =
     option_and_then (λ line. option_map (λ character. record { line = line; character = character })
     (number_in (member_of (codes "character") j))) (number_in (member_of (codes "line") j))
 
--- the text in place of the range, if both are well formed
+-- where a range begins and where it ends, if both are well formed
+abbrev pub range_in : Option Json → Option (Position × Position)
+range_in j =
+    option_and_then (λ start. option_map (λ end. (start, end))
+    (position_in (member_of (codes "end") j))) (position_in (member_of (codes "start") j))
+
+-- the text in place of the range
 abbrev pub part_in : Option Json → List ℕ → Option ChangeView
-part_in range text =
-    option_and_then (λ start. option_map (λ end. NewPart start end text)
-    (position_in (member_of (codes "end") range))) (position_in (member_of (codes "start") range))
+part_in range text = option_map (λ (r : Position × Position). NewPart r.0 r.1 text) (range_in range)
 
 -- whether a range is reported
 abbrev pub is_reported : Option Json → Bool

@@ -11,6 +11,6 @@ mod reading;
 mod writing;
 
 pub use reading::{
-    changes_of, encoding_of, is_set, items_of, member, number_of, position_of, text_of,
+    changes_of, encoding_of, is_set, items_of, member, number_of, position_of, range_of, text_of,
 };
 pub use writing::{encoding_name, put_edit, put_location, put_position, put_range};

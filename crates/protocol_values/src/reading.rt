@@ -4,7 +4,7 @@ ghost use Rattle.std.specs.Prelude.{◌≡◌, IfOk, map, option_map};
 ghost use Rattle.json.specs.Value.{value_view};
 ghost use Rattle.text_edits.specs.Edits.{change_view};
 ghost use Rattle.protocol_values.specs.Members.{seen, member_of, text_in, array_in, is_set, number_in};
-ghost use Rattle.protocol_values.specs.Reading.{position_in, part_in, change_in, changes_in, offers, encoding_in};
+ghost use Rattle.protocol_values.specs.Reading.{position_in, range_in, part_in, change_in, changes_in, offers, encoding_in};
 
 use json::Value;
 use std::alloc::{AllocError, Global};
@@ -63,6 +63,15 @@ pub fn position_of(value: Option<&Value<'_>>) -> Option<Position>
     })
 }
 
+/// The range, where there is one: where it begins, and where it ends.
+pub fn range_of(value: Option<&Value<'_>>) -> Option<(Position, Position)>
+    ensures { result ≡ range_in (seen value.entry) }
+{
+    let start = position_of(member(value, "start"))?;
+    let end = position_of(member(value, "end"))?;
+    Some((start, end))
+}
+
 /// The changes of a text, in order; none where one of them is malformed, or there is no array.
 pub fn changes_of<'a>(
     alloc: Global,
@@ -96,8 +105,7 @@ fn change_of<'a>(value: &Value<'a>) -> Option<Change<'a>>
 fn part_of<'a>(range: Option<&Value<'_>>, text: &'a str) -> Option<Change<'a>>
     ensures { option_map change_view result ≡ part_in (seen range.entry) text.now }
 {
-    let start = position_of(member(range, "start"))?;
-    let end = position_of(member(range, "end"))?;
+    let (start, end) = range_of(range)?;
     Some(Change::Part(start, end, text))
 }
 

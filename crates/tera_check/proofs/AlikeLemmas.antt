@@ -6,12 +6,13 @@ use Rattle.tera_base.specs.Contexts.{found}
 use Rattle.tera_base.specs.Values.{Val}
 use Rattle.tera_base.specs.declared.utils.Span.{Span}
 use Rattle.tera_ast.specs.Tree.{Expr, Const, Array, Map, Var, GetAttr, GetItem, Slice, Filter, Test, Ternary, ListComprehension, ComponentCall, FunctionCall, UnaryOperation, BinaryOperation}
+use Rattle.tera_ast.specs.Tree.{Nodes}
 use Rattle.tera_ast.specs.View.{nodes_of}
 use Rattle.tera_tree.specs.Tree.{Argument, Definition, Output}
 use Rattle.tera_check.specs.Alike.{name_called, names_in, AreAlike, AreAlikeIfAny, AgreeOn}
 use Rattle.tera_check.specs.Calls.{calls_in_definition, calls_in_nodes, calls_of}
 use Rattle.tera_check.specs.Findings.{FindingVal}
-use Rattle.tera_check.specs.Judged.{KnownVal, RemarkVal, taken_by, about, remarked, refused_for, unless_rest, unknown, refusal, counted, refused, refused_one, is_again, refused_findings, missed, missing_findings, missing_in, judged, call_findings, again, defined_again, again_findings}
+use Rattle.tera_check.specs.Judged.{KnownVal, RemarkVal, taken_by, about, remarked, refused_for, unless_rest, unknown, refusal, counted, refused, refused_one, is_again, refused_findings, missed, missing_findings, missing_in, judged, unused_body, unused_bodies, call_findings, again, defined_again, again_findings}
 use Rattle.tera_check.specs.Named.{span_at, taken_in, tree_findings}
 use Rattle.tera_check.specs.Parameters.{parameter_at}
 use Rattle.tera_check.specs.Repeated.{repeated_findings}
@@ -58,6 +59,9 @@ module _ (number other : ℕ) (k j : KnownVal) (h : AreAlike number other k j) w
   judged_some : (name : List ℕ) (span : Span) (ps : List PassedVal) → judged (Some k) name span ps ≡ judged (Some j) name span ps
   judged_some name span ps = λ i. all_refused_alike ps i ++ missing_in_alike span ps i
 
+  unused_some : (span : Span) (body : Nodes) → unused_bodies (Some k) span body ≡ unused_bodies (Some j) span body
+  unused_some span body = (λ i. remarked k span (unused_body (h.shows_body i) (h.name i) body)) ∙ remarked_alike span (unused_body j.shows_body j.definition.name body)
+
   again_alike : (span : Span) → again k span ≡ again j span
   again_alike span = λ i. again (record k { definition = record k.definition { name = h.name i }; file = h.file i; span = h.span i }) span
 
@@ -72,6 +76,12 @@ module _ (number other : ℕ) where
   judged_alike None (Some j) h name span ps = absurd h
   judged_alike (Some k) None h name span ps = absurd h
   judged_alike (Some k) (Some j) h name span ps = judged_some number other k j h name span ps
+
+  unused_body_alike : (o p : Option KnownVal) → AreAlikeIfAny number other o p → (span : Span) (body : Nodes) → unused_bodies o span body ≡ unused_bodies p span body
+  unused_body_alike None None h span body = refl
+  unused_body_alike None (Some j) h span body = absurd h
+  unused_body_alike (Some k) None h span body = absurd h
+  unused_body_alike (Some k) (Some j) h span body = unused_some number other k j h span body
 
   taken_alike : (o p : Option KnownVal) → AreAlikeIfAny number other o p → (hidden : Bool) (n : List ℕ) → taken_by o hidden n ≡ taken_by p hidden n
   taken_alike None None h hidden n = refl
@@ -88,7 +98,8 @@ module _ (number other : ℕ) where
 module _ (number other : ℕ) (known others : List ℕ → Option KnownVal) where
   call_alike : (file : List ℕ) (e : Expr) → AgreeOn (name_called e) number other known others → call_findings file known e ≡ call_findings file others e
   call_alike file (ComponentCall name es body closed span) h =
-      ap (λ fs. repeated_findings holders.Call file es ++ fs) (judged_alike number other (known name) (others name) h.0 name span (passed_by es))
+      λ i. repeated_findings holders.Call file es
+      ++ (judged_alike number other (known name) (others name) h.0 name span (passed_by es) i ++ unused_body_alike number other (known name) (others name) h.0 span body i)
   call_alike file (Const v span) h = refl
   call_alike file (Array es span) h = refl
   call_alike file (Map es span) h = refl

@@ -13,13 +13,13 @@ use Rattle.tera_base.specs.Contexts.{found}
 use Rattle.tera_base.specs.Spanned.{node_of, span_of}
 use Rattle.tera_base.specs.declared.utils.Span.{Span}
 use Rattle.tera_base.specs.declared.utils.Spanned.{Spanned}
-use Rattle.tera_ast.specs.View.{call_view, entries_view}
+use Rattle.tera_ast.specs.View.{call_view, entries_view, nodes_view}
 use Rattle.tera_ast.specs.declared.ast.ComponentCall.{ComponentCall, out-ComponentCall}
 use Rattle.tera_ast.proofs.Views.{call_out}
 use Rattle.tera_tree.specs.View.{argument_view}
 use Rattle.tera_tree.specs.declared.ast.ComponentArgument.{ComponentArgument}
 use Rattle.tera_check.specs.Findings.{FindingVal, finding_view}
-use Rattle.tera_check.specs.Judged.{KnownVal, known_view, judged, call_findings, refused_one, refused_findings, is_again, missing_findings, missing_in}
+use Rattle.tera_check.specs.Judged.{KnownVal, known_view, judged, call_findings, refused_one, refused_findings, is_again, missing_findings, missing_in, unused_bodies}
 use Rattle.tera_check.specs.Passed.{PassedVal, OneNamed, Whatever, passed_view, passed_by, is_under, is_whatever, has_whatever, is_in, AreNamesOf}
 use Rattle.tera_check.specs.Repeated.{repeated_findings}
 use Rattle.tera_check.specs.declared.catalogue.Known.{Known}
@@ -103,7 +103,8 @@ judged_known k span ps qs names old mid new same refused are missing =
 pub judged_call : (file : List ℕ) (known : List ℕ → Option KnownVal) (s : Spanned ComponentCall)
     → call_findings file known (call_view (node_of s) (span_of s))
     ≡ repeated_findings holders.Call file (entries_view (out-ComponentCall (node_of s)).kwargs.items)
-    ++ judged (known (string_bytes (out-ComponentCall (node_of s)).name)) (string_bytes (out-ComponentCall (node_of s)).name) (span_of s) (passed_by (entries_view (out-ComponentCall (node_of s)).kwargs.items))
+    ++ (judged (known (string_bytes (out-ComponentCall (node_of s)).name)) (string_bytes (out-ComponentCall (node_of s)).name) (span_of s) (passed_by (entries_view (out-ComponentCall (node_of s)).kwargs.items))
+    ++ unused_bodies (known (string_bytes (out-ComponentCall (node_of s)).name)) (span_of s) (nodes_view (out-ComponentCall (node_of s)).body.items))
 judged_call file known s = rw (call_out (node_of s) (span_of s)) refl
 
 -- ---- a template

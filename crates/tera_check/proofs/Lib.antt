@@ -1,4 +1,6 @@
+pub mod AddedLemmas
 pub mod AlikeLemmas
+pub mod BodiesLemmas
 pub mod CatalogueLemmas
 pub mod CheckedLemmas
 pub mod ConditionsLemmas
@@ -24,3 +26,4 @@ pub mod WalkLemmas
 pub mod WordLemmas
 pub mod RegisteredLemmas
 pub mod UnknownLemmas
+pub mod UnusedLemmas

@@ -23,6 +23,7 @@ pub record AreAlike (number other : ℕ) (k j : KnownVal) : Type 0 where
   pub file : k.file ≡ j.file
   pub span : k.span ≡ j.span
   pub own : nat_eq k.template number ≡ nat_eq j.template other
+  pub shows_body : k.shows_body ≡ j.shows_body
 
 -- two such components, or none
 abbrev pub AreAlikeIfAny : ℕ → ℕ → Option KnownVal → Option KnownVal → Type 0

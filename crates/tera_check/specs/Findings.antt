@@ -37,7 +37,9 @@ kind_name kinds.MissingArgument = codes "missing-argument"
 kind_name kinds.UnknownArgument = codes "unknown-argument"
 kind_name kinds.WrongType = codes "wrong-type"
 kind_name kinds.RepeatedArgument = codes "repeated-argument"
+kind_name kinds.UnusedBody = codes "unused-body"
 kind_name kinds.UnusedParameter = codes "unused-parameter"
+kind_name kinds.UnusedComponent = codes "unused-component"
 kind_name kinds.DefinedAgain = codes "defined-again"
 kind_name kinds.RepeatedKey = codes "repeated-key"
 kind_name kinds.RepeatedCondition = codes "repeated-condition"
@@ -54,14 +56,17 @@ kind_name kinds.UnknownFunction = codes "unknown-function"
 -- all kinds
 abbrev pub all_kinds : List Kind
 all_kinds =
-    kinds.Fault ∷ kinds.UndefinedComponent ∷ kinds.MissingArgument ∷ kinds.UnknownArgument ∷ kinds.WrongType ∷ kinds.RepeatedArgument ∷ kinds.UnusedParameter ∷ kinds.DefinedAgain ∷ kinds.RepeatedKey
-    ∷ kinds.RepeatedCondition ∷ kinds.UnusedIgnore ∷ kinds.MissingTemplate ∷ kinds.CircularExtends ∷ kinds.CircularInclude
+    kinds.Fault ∷ kinds.UndefinedComponent ∷ kinds.MissingArgument ∷ kinds.UnknownArgument ∷ kinds.WrongType ∷ kinds.RepeatedArgument ∷ kinds.UnusedBody
+    ∷ kinds.UnusedParameter
+    ∷ kinds.UnusedComponent ∷ kinds.DefinedAgain ∷ kinds.RepeatedKey ∷ kinds.RepeatedCondition ∷ kinds.UnusedIgnore ∷ kinds.MissingTemplate ∷ kinds.CircularExtends ∷ kinds.CircularInclude
     ∷ kinds.UndefinedBlock ∷ kinds.SuperWithoutParent ∷ kinds.UnknownFilter ∷ kinds.UnknownTest ∷ kinds.UnknownFunction ∷ []
 
--- how grave a kind is, unless another severity is set for it: what a call, a body or a map does not use is a warning, all else an error
+-- how grave a kind is, unless another severity is set for it: what is not used, or may not be meant, is a warning, all else an error
 abbrev pub severity_of : Kind → Severity
 severity_of kinds.RepeatedArgument = severities.Warning
+severity_of kinds.UnusedBody = severities.Warning
 severity_of kinds.UnusedParameter = severities.Warning
+severity_of kinds.UnusedComponent = severities.Warning
 severity_of kinds.RepeatedKey = severities.Warning
 severity_of kinds.RepeatedCondition = severities.Warning
 severity_of kinds.UnusedIgnore = severities.Warning
@@ -70,7 +75,13 @@ severity_of kinds.UndefinedBlock = severities.Warning
 severity_of kinds.SuperWithoutParent = severities.Warning
 severity_of _ = severities.Error
 
--- the word for that
+-- what a kind counts for, unless something else is set; components that no template calls are off, as the program may call
+-- these
+abbrev pub default_level : Kind → Option Severity
+default_level kinds.UnusedComponent = None
+default_level kind = Some (severity_of kind)
+
+-- the word for a severity
 abbrev pub severity_name : Severity → List ℕ
 severity_name severities.Error = codes "error"
 severity_name severities.Warning = codes "warning"

@@ -9,6 +9,7 @@ use Rattle.tera_lexer.specs.grammar.Marks.{Marks, default_marks}
 use Rattle.tera_lexer.specs.grammar.Tokens.{AreTokensOf, Items, Ended, Failed, Token}
 use Rattle.tera_tree.specs.declared.outputs.ParserOutput.{ParserOutput}
 use Rattle.tera_check.specs.Boundaries.{text_at, is_same_part}
+use Rattle.tera_check.specs.Hints.{begins_with, byte_order_mark}
 use Rattle.tera_check.specs.declared.ignores.Ignore.{Ignore}
 use Rattle.tera_check.specs.declared.mended.Mended.{Mended}
 use Rattle.tera_check.specs.declared.templates.Template.{Template}
@@ -73,8 +74,13 @@ abbrev pub is_blank_line : List ℕ → Bool
 is_blank_line [] = true
 is_blank_line (b ∷ bs) = (b == 10) || (is_blank b && is_blank_line bs)
 
+-- the text before a comment, without the byte order mark with which a file may begin
+abbrev pub without_mark : List ℕ → List ℕ
+without_mark before = if begins_with byte_order_mark before then drop 3 before else before
+
 abbrev pub is_alone : List ℕ → Span → Bool
-is_alone text span = is_blank_line (reverse (take span.range.start text)) && is_blank_line (drop span.range.end text)
+is_alone text span =
+    is_blank_line (reverse (without_mark (take span.range.start text))) && is_blank_line (drop span.range.end text)
 
 -- ---- the ignores of a text
 

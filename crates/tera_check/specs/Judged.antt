@@ -1,5 +1,5 @@
 -- What is found of a call of a component.
-use Rattle.std.specs.Prelude.{ℕ, List, [], ◌∷◌, ◌++◌, Bool, true, false, not, ◌&&◌, if◌then◌else◌, nat_eq, Option, None, Some, codes, suc, string_bytes}
+use Rattle.std.specs.Prelude.{ℕ, List, [], ◌∷◌, ◌++◌, Bool, true, false, not, ◌&&◌, ◌||◌, if◌then◌else◌, nat_eq, Option, None, Some, codes, suc, string_bytes}
 use Rattle.std.specs.List.{flat_map, list_any}
 use Rattle.std.specs.Option.{is_some, option_map}
 use Rattle.std.specs.Str.{bytes_eq}
@@ -7,12 +7,13 @@ use Rattle.tera_base.specs.Contexts.{found}
 use Rattle.tera_base.specs.Kinds.{kind_of}
 use Rattle.tera_base.specs.Values.{Val}
 use Rattle.tera_base.specs.declared.utils.Span.{Span}
-use Rattle.tera_ast.specs.Tree.{Expr, ComponentCall}
+use Rattle.tera_ast.specs.Tree.{Expr, ComponentCall, Nodes}
 use Rattle.tera_tree.specs.Calls.{wrong_type_text, missing_text, unknown_text}
 use Rattle.tera_tree.specs.Tree.{Argument, Definition}
 use Rattle.tera_tree.specs.Types.{is_of_type}
 use Rattle.tera_tree.specs.View.{definition_view}
 use Rattle.tera_tree.specs.declared.ast.ArgType.{ArgType}
+use Rattle.tera_check.specs.Bodies.{is_blank_body}
 use Rattle.tera_check.specs.Findings.{NoteVal, NoteOf, FindingVal, FindingOf}
 use Rattle.tera_grammar.specs.statements.Reading.Meeting.{Located}
 use Rattle.tera_statements.specs.Known.{located_of}
@@ -33,6 +34,7 @@ pub record KnownVal : Type 0 where
   pub file : List ℕ
   pub span : Span
   pub parameters : Located
+  pub shows_body : Bool
 
 abbrev pub known_view : Known → KnownVal
 known_view k = record {
@@ -41,6 +43,7 @@ known_view k = record {
   file = k.file.now;
   span = k.span;
   parameters = located_if_any (option_map (λ names. located_of names.now) k.parameters);
+  shows_body = k.shows_body;
 }
 
 -- an implicit parameter of this name
@@ -141,7 +144,7 @@ missing_findings k passed span = flat_map (λ a. remarked k span (missed passed 
 abbrev pub missing_in : KnownVal → Span → List PassedVal → List FindingVal
 missing_in k span ps = if has_whatever ps then [] else missing_findings k (λ n. is_passed n ps) span
 
--- ---- a call at a span, with what it passes: of a component that is known, or not
+-- ---- what a call at a span passes: to a component that is known, or not
 
 abbrev pub undefined_text : List ℕ → List ℕ
 undefined_text name = codes "No template defines a component named `" ++ (name ++ codes "`")
@@ -153,10 +156,24 @@ abbrev pub judged : Option KnownVal → List ℕ → Span → List PassedVal →
 judged None name span ps = undefined span name ∷ []
 judged (Some k) name span ps = refused_findings k ps ++ missing_in k span ps
 
--- .. in a file
+-- ---- a body that is not white space alone, for a component that never shows it
+
+abbrev pub unused_body_text : List ℕ → List ℕ
+unused_body_text name = codes "Component `" ++ (name ++ codes "` never shows the body that it is given")
+
+abbrev pub unused_body : Bool → List ℕ → Nodes → Option RemarkVal
+unused_body shows name body =
+    if shows || is_blank_body body then None else Some (record { kind = kinds.UnusedBody; text = unused_body_text name })
+
+abbrev pub unused_bodies : Option KnownVal → Span → Nodes → List FindingVal
+unused_bodies None span body = []
+unused_bodies (Some k) span body = remarked k span (unused_body k.shows_body k.definition.name body)
+
+-- ---- a call in a file
+
 abbrev pub call_findings : List ℕ → (List ℕ → Option KnownVal) → Expr → List FindingVal
 call_findings file known (ComponentCall name es body closed span) =
-    repeated_findings holders.Call file es ++ judged (known name) name span (passed_by es)
+    repeated_findings holders.Call file es ++ (judged (known name) name span (passed_by es) ++ unused_bodies (known name) span body)
 call_findings file known _ = []
 
 -- ---- a definition whose name is at a span, of a component that another template defines first

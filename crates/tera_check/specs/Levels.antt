@@ -3,7 +3,7 @@ use denote.Ref.{Bor}
 use Rattle.std.specs.Prelude.{◌≡◌, ℕ, List, Bool, true, false, Option, None, Some, bytes_eq, filter, find, if◌then◌else◌, is_some, map, unwrap_or}
 use Rattle.std.specs.List.{list_any}
 use Rattle.std.specs.Option.{option_map_or}
-use Rattle.tera_check.specs.Findings.{kind_name, severity_of}
+use Rattle.tera_check.specs.Findings.{kind_name, severity_of, default_level}
 use Rattle.tera_check.specs.declared.finding.Finding.{Finding}
 use Rattle.tera_check.specs.declared.finding.Kind.{Kind}
 use Rattle.tera_check.specs.declared.finding.Kind.TheVariants as kinds
@@ -19,9 +19,9 @@ has_rule rules kind = list_any (λ rule. bytes_eq rule.now (kind_name kind)) rul
 abbrev pub is_of : Kind → RuleLevel → Bool
 is_of kind rule = bytes_eq rule.rule.now (kind_name kind)
 
--- what a kind counts for as its rule is set: none where it is off; as grave as the kind is, where nothing is set
+-- what a kind counts for as its rule is set: none where it is off; what it counts for by itself, where nothing is set
 abbrev pub set_level : List RuleLevel → Kind → Option Severity
-set_level set kind = option_map_or (λ rule. rule.level) (find (is_of kind) set) (Some (severity_of kind))
+set_level set kind = option_map_or (λ rule. rule.level) (find (is_of kind) set) (default_level kind)
 
 -- If rules are selected, these alone are on, whatever they are set to: one that is off is as grave as its kind.
 abbrev pub selected_by : List (Bor (List ℕ)) → Kind → Option Severity → Option Severity

@@ -1,4 +1,6 @@
+pub mod Added
 pub mod Alike
+pub mod Bodies
 pub mod Boundaries
 pub mod Calls
 pub mod Due
@@ -30,4 +32,5 @@ pub mod Unknown
 pub mod UnknownFilters
 pub mod UnknownFunctions
 pub mod UnknownTests
+pub mod UnusedComponents
 pub mod Within

@@ -10,6 +10,7 @@ use Rattle.tera_tree.specs.declared.outputs.ParserOutput.{ParserOutput}
 use Rattle.std.specs.List.{flat_map}
 use Rattle.tera_tree.specs.Tree.{Definition, Output}
 use Rattle.tera_tree.specs.View.{definition_view}
+use Rattle.tera_check.specs.Bodies.{shows_in}
 use Rattle.tera_check.specs.Calls.{calls_of}
 use Rattle.tera_check.specs.Findings.{FindingVal, first_span}
 use Rattle.tera_check.specs.Judged.{KnownVal, known_view, taken_by, call_findings, again_findings}
@@ -34,6 +35,7 @@ known_at number t at d = record {
   file = string_bytes t.file;
   span = span_at t at;
   parameters = parameter_at t d.name;
+  shows_body = shows_in t d.name;
 }
 
 -- the components of a template: these definitions, from that of a number on

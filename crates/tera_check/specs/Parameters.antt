@@ -104,7 +104,7 @@ located_if_any (Some names) = names
 abbrev pub parameter_at : Template → List ℕ → Located
 parameter_at t component = located_if_any (grouped_of t.parameters_at component)
 
--- a name that begins with `_` says that its parameter may be unused
+-- a name that begins with `_` says that its parameter, or its component, may be unused
 abbrev pub may_be_unused : List ℕ → Bool
 may_be_unused name = starts_with nat_eq name (codes "_")
 

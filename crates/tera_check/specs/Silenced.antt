@@ -1,5 +1,5 @@
 -- Which findings the ignores of a template silence, and which ignores silence none.
-use Rattle.std.specs.Prelude.{◌≡◌, ◌↔◌, ◌+◌, ◌-◌, ◌^◌, min, ℕ, List, [], ◌++◌, Bool, true, false, not, ◌&&◌, ◌||◌, ◌==◌, if◌then◌else◌, codes, map, String, Option}
+use Rattle.std.specs.Prelude.{◌≡◌, ◌↔◌, ◌+◌, ◌-◌, ◌^◌, min, ℕ, List, [], ◌++◌, Bool, true, false, not, ◌&&◌, ◌||◌, ◌==◌, if◌then◌else◌, codes, length, map, String, Option}
 use Rattle.std.specs.declared.alloc.Global.{Global}
 use Rattle.std.specs.BTreeMap.{BTreeMap}
 use Rattle.std.specs.BTreeSet.{BTreeSet}
@@ -41,9 +41,11 @@ is_silenced t f = list_any (λ i. silences i f) (ignores_view t.ignores.items)
 abbrev pub kind_named : List ℕ → Option Kind
 kind_named rule = find (λ kind. bytes_eq (kind_name kind) rule) all_kinds
 
--- findings of the kind depend on what other files define, on the names of templates or on what a program registers, which
--- may not be known
+-- findings of the kind depend on what other files define or call, on the names of templates or on what a program
+-- registers, which may not be known
 abbrev pub depends_on_others : Kind → Bool
+depends_on_others kinds.UnusedComponent = true
+depends_on_others kinds.UnusedBody = true
 depends_on_others kinds.DefinedAgain = true
 depends_on_others kinds.MissingArgument = true
 depends_on_others kinds.UnknownArgument = true
@@ -80,8 +82,14 @@ no_finding_text rule = codes "No finding of the rule `" ++ (rule ++ codes "` is 
 abbrev pub no_rule_text : List ℕ → List ℕ
 no_rule_text rule = codes "No rule is named `" ++ (rule ++ codes "`")
 
+abbrev pub missing_rule_text : List ℕ
+missing_rule_text = codes "The name of a rule is missing"
+
+abbrev pub not_a_rule_text : List ℕ → List ℕ
+not_a_rule_text rule = if length rule == 0 then missing_rule_text else no_rule_text rule
+
 abbrev pub unused_ignore_text : List ℕ → List ℕ
-unused_ignore_text rule = if is_some (kind_named rule) then no_finding_text rule else no_rule_text rule
+unused_ignore_text rule = if is_some (kind_named rule) then no_finding_text rule else not_a_rule_text rule
 
 abbrev pub unused_ignore : IgnoreVal → FindingVal
 unused_ignore i = FindingOf kinds.UnusedIgnore i.span (unused_ignore_text i.rule) []

@@ -1,15 +1,14 @@
 -- The rules on what the program registers: which filters, tests and functions of a tree there are not.
-use Rattle.std.specs.Prelude.{◌≡◌, ◌≢◌, ◌<◌, ◌≤◌, ◌++◌, ℕ, List, [], Some, false, length, map, slice_get}
+use Rattle.std.specs.Prelude.{◌++◌, ℕ, List, [], false}
 use Rattle.std.specs.List.{filter, flat_map}
-use Rattle.std.specs.List.Sorted.{IsPermutation}
 use Rattle.std.specs.Option.{option_map_or}
 use Rattle.tera_tree.specs.Outputs.{output_view}
 use Rattle.tera_tree.specs.Parts.{PartVal}
 use Rattle.tera_tree.specs.Tree.{Output}
+use Rattle.tera_check.specs.Added.{AreAdded}
 use Rattle.tera_check.specs.Due.{is_due}
-use Rattle.tera_check.specs.Findings.{FindingVal, finding_view}
+use Rattle.tera_check.specs.Findings.{FindingVal}
 use Rattle.tera_check.specs.Named.{tree_of}
-use Rattle.tera_check.specs.OrderAndStatus.{IsInOrder}
 use Rattle.tera_check.specs.Registered.{RegisteredVal}
 use Rattle.tera_check.specs.UnknownFilters.{unknown_filters}
 use Rattle.tera_check.specs.UnknownFunctions.{unknown_functions}
@@ -31,23 +30,6 @@ abbrev pub due_unknown : RegisteredVal → Template → List FindingVal
 due_unknown r t =
     option_map_or (λ o. filter (is_due false t) (unknown_findings r (output_view o))) (tree_of t) []
 
--- ---- beside what else is found
-
--- of a template there is found what was, and that, in the order of the places
-pub record IsWithUnknown (r : RegisteredVal) (t : Template) (old new : Found) : Type 0 where
-  pub file : new.file ≡ old.file
-  pub in_order : IsInOrder new.findings.items
-  pub found : IsPermutation (map finding_view old.findings.items ++ due_unknown r t) (map finding_view new.findings.items)
-
--- so it is of the template of a number, and what is found in all others stays
-pub record IsAddedAt (r : RegisteredVal) (ts : List Template) (number : ℕ) (old new : List Found) : Type 0 where
-  pub each : length new ≡ length old
-  pub here : (t : Template) (f g : Found) → slice_get ts number ≡ Some t → slice_get old number ≡ Some f → slice_get new number ≡ Some g → IsWithUnknown r t f g
-  pub others : (n : ℕ) → n ≢ number → slice_get new n ≡ slice_get old n
-
--- so it is of the first templates, and what is found in the others stays
-pub record AreWithUnknown (r : RegisteredVal) (ts : List Template) (checked : ℕ) (old new : List Found) : Type 0 where
-  pub each : length new ≡ length old
-  pub added : (n : ℕ) (t : Template) (f g : Found) → n < checked
-      → slice_get ts n ≡ Some t → slice_get old n ≡ Some f → slice_get new n ≡ Some g → IsWithUnknown r t f g
-  pub others : (n : ℕ) → checked ≤ n → slice_get new n ≡ slice_get old n
+-- it is added to what is found in the first templates
+abbrev pub AreWithUnknown : RegisteredVal → List Template → ℕ → List Found → List Found → Type 0
+AreWithUnknown r = AreAdded (due_unknown r)

@@ -82,15 +82,15 @@ fn counted<'a>(more: bool, named: &Named<'a>) -> Option<&'a Value>
     if more { None } else { named.constant }
 }
 
-// Of what kind a finding about a call is, and what it says.
+/// Of what kind a finding about a call is, and what it says.
 #[derive(Drop)]
-struct Remark {
-    kind: Kind,
-    message: String,
+pub(crate) struct Remark {
+    pub(crate) kind: Kind,
+    pub(crate) message: String,
 }
 
-// Adds a finding with the remark, if there is one.
-fn push_remark(
+/// Adds a finding with the remark, if there is one.
+pub(crate) fn push_remark(
     alloc: Global,
     findings: &mut Vec<Finding>,
     known: &Known<'_>,

@@ -23,6 +23,8 @@ pub struct Known<'a> {
     pub span: Span,
     /// Where its parameters are there, by their names.
     pub parameters: Option<&'a BTreeMap<String, Span>>,
+    /// Whether it may show the body that it is given.
+    pub shows_body: bool,
 }
 
 /// The components that some templates define, by their names. Of components with one name the first counts.
@@ -75,6 +77,7 @@ pub fn known_at<'a>(
         file: template.file.as_str(),
         span: defined_at(template, at),
         parameters: template.parameters_at.get(definition.name.as_str()),
+        shows_body: !template.bodies_hidden.contains(definition.name.as_str()),
     }
 }
 

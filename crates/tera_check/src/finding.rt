@@ -28,8 +28,12 @@ pub enum Kind {
     WrongType,
     /// A value whose argument is given again in the same call, so that it does not count.
     RepeatedArgument,
+    /// A body that is given to a component that never shows it.
+    UnusedBody,
     /// A parameter that nothing in the body of its component names.
     UnusedParameter,
+    /// A component that no template calls.
+    UnusedComponent,
     /// A component that another template defines first.
     DefinedAgain,
     /// A value whose key is given again in the same map, so that it does not count.
@@ -57,14 +61,16 @@ pub enum Kind {
 }
 
 /// All kinds of findings.
-pub const KINDS: [Kind; 19] = [
+pub const KINDS: [Kind; 21] = [
     Kind::Fault,
     Kind::UndefinedComponent,
     Kind::MissingArgument,
     Kind::UnknownArgument,
     Kind::WrongType,
     Kind::RepeatedArgument,
+    Kind::UnusedBody,
     Kind::UnusedParameter,
+    Kind::UnusedComponent,
     Kind::DefinedAgain,
     Kind::RepeatedKey,
     Kind::RepeatedCondition,
@@ -140,7 +146,7 @@ impl Place {
 
 impl Kind {
     ghost use Rattle.std.specs.Prelude.{◌≡◌, IfOk, string_bytes};
-    ghost use Rattle.tera_check.specs.Findings.{kind_name, severity_of, label_of};
+    ghost use Rattle.tera_check.specs.Findings.{kind_name, severity_of, default_level, label_of};
 
     /// The word for the kind, which stays the same from version to version.
     pub fn name(self) -> &'static str
@@ -153,7 +159,9 @@ impl Kind {
             Kind::UnknownArgument => "unknown-argument",
             Kind::WrongType => "wrong-type",
             Kind::RepeatedArgument => "repeated-argument",
+            Kind::UnusedBody => "unused-body",
             Kind::UnusedParameter => "unused-parameter",
+            Kind::UnusedComponent => "unused-component",
             Kind::DefinedAgain => "defined-again",
             Kind::RepeatedKey => "repeated-key",
             Kind::RepeatedCondition => "repeated-condition",
@@ -186,13 +194,26 @@ impl Kind {
             | Kind::UnknownFunction
             | Kind::CircularExtends => Severity::Error,
             Kind::RepeatedArgument
+            | Kind::UnusedBody
             | Kind::UnusedParameter
+            | Kind::UnusedComponent
             | Kind::RepeatedKey
             | Kind::RepeatedCondition
             | Kind::UnusedIgnore
             | Kind::CircularInclude
             | Kind::UndefinedBlock
             | Kind::SuperWithoutParent => Severity::Warning,
+        }
+    }
+
+    /// What findings of the kind count for, unless something else is set. Components that no template calls are not
+    /// reported, as the program may call these.
+    pub fn default_level(self) -> Option<Severity>
+        ensures { result ≡ default_level self }
+    {
+        match self {
+            Kind::UnusedComponent => None,
+            _ => Some(self.severity()),
         }
     }
 

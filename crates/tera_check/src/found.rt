@@ -6,7 +6,7 @@ ghost use Rattle.tera_check.specs.Lost.{are_open};
 ghost use Rattle.tera_check.specs.Named.{known_in};
 
 use crate::catalogue::{Catalogue, catalogue_of};
-use crate::checked::{faults_of, findings_of};
+use crate::checked::{faults_of, findings_of, put_in_order};
 use crate::finding::Finding;
 use crate::templates::{Template, is_open};
 use std::alloc::{AllocError, Global};
@@ -17,6 +17,21 @@ pub struct Found<'a> {
     /// The name of its file.
     pub file: &'a str,
     pub findings: Vec<Finding>,
+}
+
+impl<'a> Found<'a> {
+    ghost use Rattle.std.specs.Prelude.{OnOk, map};
+    ghost use Rattle.tera_check.specs.Added.{IsWith};
+    ghost use Rattle.tera_check.specs.Findings.{finding_view};
+
+    /// Adds more findings to those of the template, all in the order of the places.
+    pub(crate) fn add(&mut self, mut more: Vec<Finding>) -> Result<(), AllocError>
+        ensures { OnOk result (IsWith (map finding_view more.items) self.old self.new) }
+    {
+        self.findings.append(&mut more)?;
+        put_in_order(&mut self.findings)?;
+        Ok(())
+    }
 }
 
 /// What is found in each of the templates, in their order, over the components that all of them define. Of those after the

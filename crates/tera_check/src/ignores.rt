@@ -1,9 +1,9 @@
 //! The comments of a template that silence findings.
 
-ghost use Rattle.std.specs.Prelude.{◌≡◌, ◌∷◌, [], ◌++◌, reverse, IfOk, OnOk};
+ghost use Rattle.std.specs.Prelude.{◌≡◌, ◌∷◌, [], ◌++◌, drop, reverse, take, IfOk, OnOk};
 ghost use Rattle.std.specs.Option.{option_map};
 ghost use Rattle.tera_lexer.specs.grammar.Marks.{IsValid, marks_of};
-ghost use Rattle.tera_check.specs.Ignores.{AreIgnoresOf, ignore_of, ignores_at, ignores_in, ignores_of_rules, ignores_view, inside_of, is_alone, is_blank, is_blank_line, rules_at, without_dashes};
+ghost use Rattle.tera_check.specs.Ignores.{AreIgnoresOf, ignore_of, ignores_at, ignores_in, ignores_of_rules, ignores_view, inside_of, is_alone, is_blank, is_blank_line, rules_at, without_dashes, without_mark};
 
 use crate::due::text_at;
 use std::alloc::{AllocError, Global};
@@ -159,15 +159,39 @@ fn push_rule(
     Ok(())
 }
 
-// Whether nothing but white space is beside the comment on its lines.
-#[tactic(auto, using(std::proofs::lemmas::List::take_min, std::proofs::lemmas::List::drop_min))]
+// Whether nothing but white space is beside the comment on its lines, after the byte order mark with which a text may
+// begin.
 fn is_alone(text: &str, span: &Span) -> bool
     ensures { result ≡ is_alone text.now span.now }
 {
     let bytes = text.as_bytes();
-    let (before, _) = bytes.split_at(span.range.start.min(bytes.len()));
-    let (_, after) = bytes.split_at(span.range.end.min(bytes.len()));
-    ends_line(before) && begins_line(after)
+    let before = without_mark(before(bytes, span.range.start));
+    ends_line(before) && begins_line(after(bytes, span.range.end))
+}
+
+#[tactic(auto, using(std::proofs::lemmas::List::take_min))]
+fn before(bytes: &[u8], end: usize) -> &[u8]
+    ensures { result.now ≡ take end bytes.now }
+{
+    let (before, _) = bytes.split_at(end.min(bytes.len()));
+    before
+}
+
+#[tactic(auto, using(std::proofs::lemmas::List::drop_min))]
+fn after(bytes: &[u8], start: usize) -> &[u8]
+    ensures { result.now ≡ drop start bytes.now }
+{
+    let (_, after) = bytes.split_at(start.min(bytes.len()));
+    after
+}
+
+fn without_mark(bytes: &[u8]) -> &[u8]
+    ensures { result.now ≡ without_mark bytes.now }
+{
+    match bytes.strip_prefix(&[0xEF, 0xBB, 0xBF]) {
+        Some(after) => after,
+        None => bytes,
+    }
 }
 
 // Whether nothing but white space is at the end of the bytes, up to a line feed.

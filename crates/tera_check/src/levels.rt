@@ -20,7 +20,7 @@ pub struct Levels<'b, 'a> {
     pub select: Option<&'b [&'a str]>,
     /// All but these.
     pub ignore: Option<&'b [&'a str]>,
-    /// What rules are set to. All others count for what [`Kind::severity`] says.
+    /// What rules are set to. All others count for what [`Kind::default_level`] says.
     pub set: &'b [RuleLevel<'a>],
 }
 
@@ -100,7 +100,7 @@ fn set_level(set: &[RuleLevel<'_>], kind: Kind) -> Option<Severity>
             return rule.level;
         }
     }
-    Some(kind.severity())
+    kind.default_level()
 }
 
 /// Leaves of what is found in each file the findings that are not off, each as grave as its rule counts for.

@@ -8,17 +8,19 @@
 //! `Named`, `OrderAndStatus`, `Objects`, `Faults`, `Alike`; `templates`, which reads, `spans`, and `parents` (specs
 //! `Parents`); `mended`, what a source with faults is read as (specs `Mended`), and `lost`, its words (specs `Lost`);
 //! `ignores`, the comments that silence findings (specs `Boundaries`, `Ignores`); `catalogue`; `calls`, over the parts of
-//! a tree (specs `Pending`); `repeated`, `passed`, `arguments` and `judged`, of one call; `parameters`, of one component
-//! (specs `Scopes`); `rules`, of each part by itself, with `repeated_keys` and `repeated_conditions` (specs
+//! a tree (specs `Pending`); `bodies`, of calls, and what shows them (specs `Bodies`); `repeated`, `passed`, `arguments`
+//! and `judged`, of one call; `parameters`, of one component (specs `Scopes`); `rules`, of each part by itself, with `repeated_keys` and `repeated_conditions` (specs
 //! `RepeatedKeys`, `RepeatedConditions`); `silenced` (specs `Silenced`), and `due`, what of that is reported beside
 //! faults (specs `Due`); `checked`, of a template, and `found`, of all; `registered`, the names that a program registers
 //! (specs `Registered`), and `unknown`, of each part by these, with `unknown_filters`, `unknown_tests` and
-//! `unknown_functions` (specs `Unknown`, `UnknownFilters` ..); `levels`, what of all that is reported (specs `Levels`);
+//! `unknown_functions` (specs `Unknown`, `UnknownFilters` ..); `unused_components`, over all templates (specs
+//! `UnusedComponents`; `Added`, what these add); `levels`, what of all that is reported (specs `Levels`);
 //! `messages`, texts; `finding`, `faults`; `fault_findings`, with `causes`, `tags`, `hints` and `walk` (specs
 //! `FaultFindings`, `Hints`); `objects`; `laws`.
 #![tactic(auto)]
 
 mod arguments;
+mod bodies;
 mod calls;
 mod catalogue;
 mod causes;
@@ -53,6 +55,7 @@ mod unknown;
 mod unknown_filters;
 mod unknown_functions;
 mod unknown_tests;
+mod unused_components;
 mod walk;
 
 pub use calls::calls_of;
@@ -72,3 +75,4 @@ pub use templates::{
     Template, definitions_of, is_open, read_template, read_template_between, tree_of,
 };
 pub use unknown::add_unknown;
+pub use unused_components::add_unused_components;

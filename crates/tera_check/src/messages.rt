@@ -5,14 +5,15 @@ ghost use Rattle.std.specs.Prelude.{◌≡◌, IfOk, string_bytes};
 ghost use Rattle.tera_base.specs.Text.{key_text};
 ghost use Rattle.tera_base.specs.ValueView.{key_view};
 ghost use Rattle.tera_check.specs.FaultFindings.{not_closed_text, closes_nothing_text, belongs_to_nothing_text, met_text};
-ghost use Rattle.tera_check.specs.Judged.{undefined_text, here_text, again_text, first_text};
+ghost use Rattle.tera_check.specs.Judged.{undefined_text, here_text, again_text, first_text, unused_body_text};
 ghost use Rattle.tera_check.specs.Parameters.{unused_text};
 ghost use Rattle.tera_check.specs.Repeated.{repeated_text, next_text};
 ghost use Rattle.tera_check.specs.RepeatedConditions.{again_condition_text, earlier_text};
-ghost use Rattle.tera_check.specs.Silenced.{no_finding_text, no_rule_text};
+ghost use Rattle.tera_check.specs.Silenced.{missing_rule_text, no_finding_text, no_rule_text};
 ghost use Rattle.tera_check.specs.UnknownFilters.{unknown_filter_text};
 ghost use Rattle.tera_check.specs.UnknownFunctions.{unknown_function_text};
 ghost use Rattle.tera_check.specs.UnknownTests.{unknown_test_text};
+ghost use Rattle.tera_check.specs.UnusedComponents.{unused_component_text};
 ghost use Rattle.tera_check.specs.declared.repeated.Holder.TheVariants as holders;
 
 use std::alloc::{AllocError, Global};
@@ -75,6 +76,20 @@ pub(crate) fn unused_parameter(
     format!(in alloc; "Parameter `{name}` is never used in the body of component `{component}`")
 }
 
+/// That the component never shows the body that a call gives it.
+pub(crate) fn unused_body(alloc: Global, name: &str) -> Result<String, AllocError>
+    ensures { IfOk result (λ m. string_bytes m ≡ unused_body_text name.now) }
+{
+    format!(in alloc; "Component `{name}` never shows the body that it is given")
+}
+
+/// That no template calls the component.
+pub(crate) fn unused_component(alloc: Global, name: &str) -> Result<String, AllocError>
+    ensures { IfOk result (λ m. string_bytes m ≡ unused_component_text name.now) }
+{
+    format!(in alloc; "No template calls the component `{name}`")
+}
+
 /// Where the component is defined that is called.
 pub(crate) fn defined_here(alloc: Global, name: &str) -> Result<String, AllocError>
     ensures { IfOk result (λ m. string_bytes m ≡ here_text name.now) }
@@ -108,6 +123,13 @@ pub(crate) fn unknown_rule(alloc: Global, rule: &str) -> Result<String, AllocErr
     ensures { IfOk result (λ m. string_bytes m ≡ no_rule_text rule.now) }
 {
     format!(in alloc; "No rule is named `{rule}`")
+}
+
+/// That the ignore has no name where one of a rule has to be.
+pub(crate) fn missing_rule(alloc: Global) -> Result<String, AllocError>
+    ensures { IfOk result (λ m. string_bytes m ≡ missing_rule_text) }
+{
+    String::from_str(alloc, "The name of a rule is missing")
 }
 
 /// That nothing closes what the word opens.

@@ -120,8 +120,8 @@ fn push_if_unused(
     push_finding(findings, unused(alloc, component, name, span)?)
 }
 
-// Whether the name says that its parameter may be unused.
-fn may_be_unused(name: &str) -> bool
+/// Whether the name says that its parameter, or its component, may be unused.
+pub(crate) fn may_be_unused(name: &str) -> bool
     ensures { result ≡ may_be_unused name.now }
 {
     name.as_bytes().starts_with(b"_")

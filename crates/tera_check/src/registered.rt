@@ -7,8 +7,8 @@ ghost use Rattle.tera_check.specs.Registered.{has_name, is_listed, list_view, ma
 use std::alloc::{AllocError, Global};
 use std::collections::BTreeSet;
 
-/// Names of filters, of tests or of functions.
-type Names<'a> = BTreeSet<&'a str>;
+/// Names of filters, of tests, of functions or of components.
+pub(crate) type Names<'a> = BTreeSet<&'a str>;
 
 /// The filters, tests and functions that templates may name, where they are known: all that there are in the program that
 /// renders the templates.
@@ -93,7 +93,8 @@ fn names_in<'a>(alloc: Global, list: &'a [String]) -> Result<Names<'a>, AllocErr
     Ok(names)
 }
 
-fn put_name<'a>(names: &mut Names<'a>, name: &'a str) -> Result<(), AllocError>
+/// Puts the name among the others.
+pub(crate) fn put_name<'a>(names: &mut Names<'a>, name: &'a str) -> Result<(), AllocError>
     ensures { OnOk result ((n : List ℕ) →
         has_name names.new n ≡ (has_name names.old n || bytes_eq name.now n)) }
 {

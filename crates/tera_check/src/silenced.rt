@@ -8,7 +8,7 @@ ghost use Rattle.std.specs.Str.{bytes_eq};
 ghost use Rattle.tera_check.specs.Findings.{FindingVal, finding_view, kind_name};
 ghost use Rattle.tera_check.specs.Ignores.{ignore_view, ignores_view};
 ghost use Rattle.tera_check.specs.Lost.{places_under};
-ghost use Rattle.tera_check.specs.Silenced.{AreLinesOf, has_finding_at, is_judged, depends_on_others, is_known_kind, is_silenced_at, is_unused, kind_named, next_line, silences, silences_at, unused_among, unused_ignore, unused_ignore_text, unused_ignores};
+ghost use Rattle.tera_check.specs.Silenced.{AreLinesOf, has_finding_at, is_judged, depends_on_others, is_known_kind, is_silenced_at, is_unused, kind_named, next_line, not_a_rule_text, silences, silences_at, unused_among, unused_ignore, unused_ignore_text, unused_ignores};
 
 use crate::finding::{Finding, KINDS, Kind, push_finding};
 use crate::ignores::Ignore;
@@ -176,14 +176,16 @@ fn is_known_kind(is_open: bool, kind: Kind) -> bool
     !depends_on_others(kind) && !(is_open && kind == Kind::UndefinedComponent)
 }
 
-// Whether findings of the kind depend on what other files define, on the names of templates or on what a program registers.
-// These may not be known.
+// Whether findings of the kind depend on what other files define or call, on the names of templates or on what a program
+// registers. These may not be known.
 fn depends_on_others(kind: Kind) -> bool
     ensures { result ≡ depends_on_others kind }
 {
     matches!(
         kind,
-        Kind::DefinedAgain
+        Kind::UnusedComponent
+            | Kind::UnusedBody
+            | Kind::DefinedAgain
             | Kind::MissingArgument
             | Kind::UnknownArgument
             | Kind::WrongType
@@ -228,6 +230,17 @@ fn unused_text(alloc: Global, rule: &str) -> Result<String, AllocError>
 {
     match kind_named(rule) {
         Some(_) => messages::unused_ignore(alloc, rule),
-        None => messages::unknown_rule(alloc, rule),
+        None => not_a_rule(alloc, rule),
+    }
+}
+
+// What is said of a word that is not a rule.
+fn not_a_rule(alloc: Global, rule: &str) -> Result<String, AllocError>
+    ensures { IfOk result (λ m. string_bytes m ≡ not_a_rule_text rule.now) }
+{
+    if rule.is_empty() {
+        messages::missing_rule(alloc)
+    } else {
+        messages::unknown_rule(alloc, rule)
     }
 }

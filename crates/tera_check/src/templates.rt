@@ -13,6 +13,7 @@ ghost use Rattle.tera_statements.specs.Known.{AreNames, grouped_of};
 ghost use Rattle.tera_tree.specs.Outputs.{output_view};
 ghost use Rattle.tera_tree.specs.Tree.{Output};
 ghost use Rattle.tera_tree.specs.View.{definition_view};
+ghost use Rattle.tera_check.specs.Bodies.{HasHidden};
 ghost use Rattle.tera_check.specs.Faults.{IsSyntaxError, is_memory};
 ghost use Rattle.tera_check.specs.Ignores.{AreIgnoresIn, AreIgnoresOfMended, ignore_view, ignores_view, is_kept};
 ghost use Rattle.tera_check.specs.Mended.{IsMended, text_of};
@@ -20,13 +21,14 @@ ghost use Rattle.tera_check.specs.Named.{definitions_of, tree_of};
 ghost use Rattle.tera_check.specs.Lost.{is_open};
 ghost use Rattle.tera_check.specs.Parents.{IsParentAt};
 
+use crate::bodies::hidden_bodies;
 use crate::due::is_same_part;
 use crate::ignores::{Ignore, ignores_of};
 use crate::mended::{Mended, read_mended};
 use crate::parents::parent_at;
 use crate::spans::spans_of;
 use std::alloc::{AllocError, Global};
-use std::collections::BTreeMap;
+use std::collections::{BTreeMap, BTreeSet};
 use tera_parser::ast::ComponentDefinition;
 use tera_parser::lexer::Delimiters;
 use tera_parser::value::{Error, ErrorKind, Span};
@@ -49,6 +51,9 @@ pub struct Template {
     pub parent_at: Option<Span>,
     /// The rules that its comments silence.
     pub ignores: Vec<Ignore>,
+    /// The names of those of its components that never show the body that they are given. In a template with a fault none
+    /// is known.
+    pub bodies_hidden: BTreeSet<String>,
 }
 
 /// Reads the template in the file of this name. At most so many of its faults are reported; with 0 only the first is
@@ -80,6 +85,7 @@ pub fn read_template(
     ensures parent { IfOk result (λ t. MatchOption (tree_of t) (t.parent_at ≡ None)
         (λ o. IsParentAt (text_of source.now t) (output_view o).parent t.parent_at)) }
     ensures ignores { IfOk result (AreIgnoresIn default_marks source.now) }
+    ensures hidden { IfOk result HasHidden }
 {
     let Template {
         file: name,
@@ -87,6 +93,7 @@ pub fn read_template(
         defined_at,
         parameters_at,
         ignores,
+        bodies_hidden,
         ..
     } = read_template_between(alloc, file, source, Delimiters::default())?;
     match parsed {
@@ -100,6 +107,7 @@ pub fn read_template(
                 parameters_at,
                 parent_at,
                 ignores,
+                bodies_hidden,
             })
         }
         Err(error) => with_fault(alloc, name, source, error, faults),
@@ -128,6 +136,7 @@ pub fn read_template_between(
     ensures alone { IfOk result (λ t. t.mended ≡ None) }
     ensures parent { IfOk result (λ t. t.parent_at ≡ None) }
     ensures ignores { IfOk result (AreIgnoresIn (marks_of markers) source.now) }
+    ensures hidden { IfOk result HasHidden }
     ensures places { IfOk result (λ t. MatchOption (tree_of t)
         ((t.defined_at.items ≡ []) × (grouped_of t.parameters_at ≡ nothing_grouped))
         (λ o. (names : Places)
@@ -139,6 +148,7 @@ pub fn read_template_between(
     let ignores = ignores_of(alloc, source, &markers)?;
     match parsed(alloc, file, source, markers) {
         Ok((output, names)) => {
+            let bodies_hidden = hidden_bodies(alloc, &output.component_definitions)?;
             let defined_at = spans_of(alloc, &names, &output.component_definitions)?;
             Ok(Template {
                 file: name,
@@ -148,6 +158,7 @@ pub fn read_template_between(
                 parameters_at: names.parameters,
                 parent_at: None,
                 ignores,
+                bodies_hidden,
             })
         }
         Err(error) => {
@@ -181,6 +192,7 @@ fn with_fault(
         (λ m. IsParentAt (string_bytes m.text) (output_view m.output).parent t.parent_at)) }
     ensures ignores { IfOk result (λ t. MatchOption t.mended (t.ignores.items ≡ [])
         (λ m. AreIgnoresOfMended source.now m (ignores_view t.ignores.items))) }
+    ensures hidden { IfOk result HasHidden }
 {
     let Some((mended, names)) = read_mended(alloc, file.as_str(), source, faults)? else {
         return Ok(without_tree(alloc, file, error));
@@ -196,6 +208,7 @@ fn with_fault(
         parameters_at: names.parameters,
         parent_at,
         ignores,
+        bodies_hidden: BTreeSet::new(alloc),
     })
 }
 
@@ -203,7 +216,7 @@ fn with_fault(
 fn without_tree(alloc: Global, file: String, error: Error) -> Template
     ensures { (result.file ≡ file) × (result.parsed ≡ Err error) × (result.mended ≡ None)
         × (result.defined_at.items ≡ []) × (grouped_of result.parameters_at ≡ nothing_grouped)
-        × (result.parent_at ≡ None) × (result.ignores.items ≡ []) }
+        × (result.parent_at ≡ None) × (result.ignores.items ≡ []) × HasHidden result }
 {
     Template {
         file,
@@ -213,6 +226,7 @@ fn without_tree(alloc: Global, file: String, error: Error) -> Template
         parameters_at: BTreeMap::new(alloc),
         parent_at: None,
         ignores: Vec::new(alloc),
+        bodies_hidden: BTreeSet::new(alloc),
     }
 }
 

@@ -7,13 +7,13 @@ ghost use Rattle.std.specs.Prelude.{◌≡◌, ◌++◌, ◌∷◌, [], false, m
 ghost use Rattle.std.specs.List.{filter, flat_map};
 ghost use Rattle.tera_tree.specs.Outputs.{output_view};
 ghost use Rattle.tera_tree.specs.Parts.{part_view, parts_view};
+ghost use Rattle.tera_check.specs.Added.{IsAddedAt, IsWith};
 ghost use Rattle.tera_check.specs.Due.{is_due};
 ghost use Rattle.tera_check.specs.Findings.{finding_view};
 ghost use Rattle.tera_check.specs.Registered.{registered_view};
-ghost use Rattle.tera_check.specs.Unknown.{AreWithUnknown, IsAddedAt, IsWithUnknown, due_unknown, unknown_findings, unknown_in};
+ghost use Rattle.tera_check.specs.Unknown.{AreWithUnknown, due_unknown, unknown_findings, unknown_in};
 ghost use Rattle.tera_check.specs.Within.{all_parts};
 
-use crate::checked::put_in_order;
 use crate::due::push_due;
 use crate::finding::Finding;
 use crate::found::Found;
@@ -45,7 +45,7 @@ pub fn add_unknown(
 }
 
 // Adds them to what is found in the template of this number.
-#[tactic(auto, using(crate::proofs::UnknownLemmas::replaced, crate::proofs::UnknownLemmas::none_added, crate::proofs::UnknownLemmas::none_found))]
+#[tactic(auto, using(crate::proofs::AddedLemmas::replaced, crate::proofs::AddedLemmas::none_added, crate::proofs::AddedLemmas::none_found))]
 fn add_at(
     alloc: Global,
     registered: &Registered<'_>,
@@ -53,8 +53,8 @@ fn add_at(
     templates: &Vec<Template>,
     all: &mut Vec<Found<'_>>,
 ) -> Result<(), AllocError>
-    ensures { OnOk result (IsAddedAt (registered_view registered.now) templates.now.items number
-        all.old.items all.new.items) }
+    ensures { OnOk result (IsAddedAt (due_unknown (registered_view registered.now))
+        templates.now.items number all.old.items all.new.items) }
 {
     let Some(template) = templates.get(number) else {
         return Ok(());
@@ -71,13 +71,10 @@ fn add_to(
     template: &Template,
     found: &mut Found<'_>,
 ) -> Result<(), AllocError>
-    ensures { OnOk result (IsWithUnknown (registered_view registered.now) template.now
+    ensures { OnOk result (IsWith (due_unknown (registered_view registered.now) template.now)
         found.old found.new) }
 {
-    let mut unknown = unknown_found(alloc, registered, template)?;
-    found.findings.append(&mut unknown)?;
-    put_in_order(&mut found.findings)?;
-    Ok(())
+    found.add(unknown_found(alloc, registered, template)?)
 }
 
 // The filters, tests and functions in the template that the program does not have. Nothing is found that comes of what

@@ -48,7 +48,9 @@ fn what_is_not_used_is_a_warning(rt: HostRuntime) {
         let unused = matches!(
             kind,
             Kind::RepeatedArgument
+                | Kind::UnusedBody
                 | Kind::UnusedParameter
+                | Kind::UnusedComponent
                 | Kind::RepeatedKey
                 | Kind::RepeatedCondition
                 | Kind::UnusedIgnore

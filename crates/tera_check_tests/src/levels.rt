@@ -86,14 +86,36 @@ fn faults_are_errors(rt: HostRuntime) {
 }
 
 #[test]
-fn without_settings_each_kind_counts_as_it_is(rt: HostRuntime) -> Result<(), Fail> {
+fn without_settings_each_kind_counts_as_it_is_if_it_is_on(rt: HostRuntime) -> Result<(), Fail> {
     let levels = Levels {
         select: None,
         ignore: None,
         set: &[],
     };
     for kind in &KINDS {
-        assert_eq!(&rt; levels.level(*kind), Some(kind.severity()));
+        let is_off = *kind == Kind::UnusedComponent;
+        let level = if is_off { None } else { Some(kind.severity()) };
+        assert_eq!(&rt; levels.level(*kind), level);
     }
     Ok(())
+}
+
+#[test]
+fn a_rule_that_is_off_by_itself_is_on_where_it_is_set_or_selected(rt: HostRuntime) {
+    let rules = ["unused-component"];
+    let set = [RuleLevel {
+        rule: "unused-component",
+        level: Some(Severity::Error),
+    }];
+    assert_eq!(&rt; level(None, None, Kind::UnusedComponent), None);
+    assert_eq!(&rt;
+        level(Some(&rules), None, Kind::UnusedComponent),
+        Some(Severity::Warning)
+    );
+    let levels = Levels {
+        select: None,
+        ignore: None,
+        set: &set,
+    };
+    assert_eq!(&rt; levels.level(Kind::UnusedComponent), Some(Severity::Error));
 }

@@ -1,3 +1,4 @@
+mod CallSteps
 mod EditSteps
 mod Finding
 mod HeadCuts

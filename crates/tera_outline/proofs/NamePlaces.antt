@@ -10,7 +10,7 @@ use Rattle.tera_outline.specs.Dotted.{dotted, end_of}
 use Rattle.tera_outline.specs.Completions.{dot_end, place_end, holds, first_inside, inside, named, called}
 
 -- the pieces after a name
-rest_after : (name following : List Piece)
+pub rest_after : (name following : List Piece)
     → map part_of (take (length following - length name) (drop (length name) following)) ≡ drop (length (map part_of name)) (map part_of following)
 rest_after name following =
     ap (map part_of) (take_rest following (length name))

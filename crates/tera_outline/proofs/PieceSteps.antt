@@ -18,7 +18,7 @@ use Rattle.tera_outline.specs.Names.{Named, found_view, name_after, after_token,
 use Rattle.tera_outline.specs.SemanticTokens.{kind_of, kinded, following, tokens_in}
 
 -- those that are left are the first and those after it
-first_split : (xs : List Piece) (x : Piece) → x ≡ get_or xs 0 x → 1 ≤ length xs → xs ≡ x ∷ take (length xs - 1) (drop 1 xs)
+pub first_split : (xs : List Piece) (x : Piece) → x ≡ get_or xs 0 x → 1 ≤ length xs → xs ≡ x ∷ take (length xs - 1) (drop 1 xs)
 first_split xs x is some = drop_more xs 0 x (omega (arith, some)) ∙ rw (← is, take_rest xs 1) refl
 
 pub tokens_step : (c next : Context) (text bytes : List ℕ) (x : Piece) (xs : List Piece) (kind : Option SemanticKind) (before after all : List SemanticToken) → x ≡ get_or xs 0 x → 1 ≤ length xs

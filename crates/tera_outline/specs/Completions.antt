@@ -4,11 +4,11 @@ use Rattle.std.specs.Str.{bytes_eq}
 use Rattle.std.specs.Option.{option_to_list}
 use Rattle.std.specs.List.{find}
 use Rattle.tera_lexer.specs.grammar.Tokens.{Tok, Start, Ident, Str, Escaped, Integer, Truth, Symbol}
-use Rattle.tera_lexer.specs.declared.lexer.delimiters.Kind.TheVariants.{Block}
+use Rattle.tera_lexer.specs.declared.lexer.delimiters.Kind.TheVariants.{Block, Variable}
 use Rattle.tera_outline.specs.declared.names.Before.{Before}
 use Rattle.tera_outline.specs.declared.names.Before.TheVariants.{Tag, Other}
 use Rattle.tera_outline.specs.declared.completions.CompletionKind.{CompletionKind}
-use Rattle.tera_outline.specs.declared.completions.CompletionKind.TheVariants.{Statement, Component, Template, Argument}
+use Rattle.tera_outline.specs.declared.completions.CompletionKind.TheVariants.{Statement, Component, Template, Argument, Filter, Test, Operand}
 use Rattle.tera_outline.specs.declared.completions.Completion.{Completion}
 use Rattle.tera_outline.specs.declared.completions.Slot.{Slot}
 use Rattle.tera_outline.specs.declared.completions.Inside.{Inside}
@@ -48,22 +48,52 @@ string_slot (p ∷ ps) =
     then Some (record { kind = Template; from = p.start + 1; start = p.start + 1; end = p.end - 1 })
     else None
 
-abbrev pub word_slot : List ℕ → List Part → Option Slot
-word_slot word ps = if is_one_of (codes "extends" ∷ codes "include" ∷ []) word then string_slot ps else None
+-- the place of a name after a word that ends at a byte, if something is between the word and these parts
+abbrev pub spaced_slot : CompletionKind → ℕ → ℕ → List Part → Option Slot
+spaced_slot kind last end ps = if nat_lt end (gap_end last ps) then Some (name_slot kind last (end + 1) ps) else None
 
-abbrev pub first_slot : Before → List ℕ → List Part → Option Slot
-first_slot Tag word ps = word_slot word ps
-first_slot before word ps = None
+-- that of a template's or a filter's name after the first word of a tag
+abbrev pub word_slot : ℕ → ℕ → List ℕ → List Part → Option Slot
+word_slot last end word ps =
+    if is_one_of (codes "extends" ∷ codes "include" ∷ []) word then string_slot ps
+    else (if bytes_eq word (codes "filter") then spaced_slot Filter last end ps
+    else (if is_one_of (codes "if" ∷ codes "elif" ∷ []) word then spaced_slot Operand last end ps
+    else None))
 
--- the place after a token that ends at a byte: that of a statement's word after the start of a tag; that of a
--- component's name after a `</`, and after a `<` where no operand may end before it; and that of a template's name
--- after the first word of a tag
+-- that of a test's name after an `is`, and the `not` after it
+abbrev pub is_not : Tok → Bool
+is_not (Ident word) = bytes_eq word (codes "not")
+is_not t = false
+
+abbrev pub test_slot : ℕ → ℕ → List Part → Option Slot
+test_slot last end [] = spaced_slot Test last end []
+test_slot last end (p ∷ ps) = if is_not p.token then spaced_slot Test last p.end ps else spaced_slot Test last end (p ∷ ps)
+
+-- the words of expressions that an operand follows
+abbrev pub operand_words : List (List ℕ)
+operand_words = codes "and" ∷ codes "or" ∷ codes "not" ∷ codes "in" ∷ codes "if" ∷ codes "else" ∷ []
+
+abbrev pub word_place : ℕ → Before → ℕ → List ℕ → List Part → Option Slot
+word_place last Tag end word ps = word_slot last end word ps
+word_place last before end word ps =
+    if bytes_eq word (codes "is") then test_slot last end ps
+    else (if is_one_of operand_words word then spaced_slot Operand last end ps
+    else None)
+
+-- the place after a token that ends at a byte: that of a statement's word after the start of a tag; that of an operand
+-- after `{{`; that of a component's name after a `</`, and after a `<` where no operand may end before it; that of a
+-- filter's name after a `|`; and that of a name after a word
+abbrev pub operator_slot : ℕ → Before → List ℕ → ℕ → List Part → Option Slot
+operator_slot last before op end ps =
+    if bytes_eq op (codes "<") then (if is_operand before then None else Some (name_slot Component last end ps))
+    else (if bytes_eq op (codes "</") then Some (name_slot Component last end ps)
+    else (if bytes_eq op (codes "|") then Some (name_slot Filter last end ps) else None))
+
 abbrev pub slot_after : ℕ → Before → Tok → ℕ → List Part → Option Slot
 slot_after last before (Start Block dash) end ps = Some (name_slot Statement last end ps)
-slot_after last before (Symbol op) end ps =
-    if bytes_eq op (codes "<") then (if is_operand before then None else Some (name_slot Component last end ps))
-    else (if bytes_eq op (codes "</") then Some (name_slot Component last end ps) else None)
-slot_after last before (Ident word) end ps = first_slot before word ps
+slot_after last before (Start Variable dash) end ps = Some (name_slot Operand last end ps)
+slot_after last before (Symbol op) end ps = operator_slot last before op end ps
+slot_after last before (Ident word) end ps = word_place last before end word ps
 slot_after last before t end ps = None
 
 -- those of these parts, in order, after what is before them, in a text that ends at `last`

@@ -1,4 +1,6 @@
 pub mod Added
+pub mod Bound
+pub mod Calls
 pub mod Completions
 pub mod Dotted
 pub mod Edits

@@ -22,6 +22,12 @@ pub enum CompletionKind {
     Template,
     /// The name of an argument in the call of the component whose name begins with this byte, and is given by `under`.
     Argument(usize),
+    /// The name of a filter.
+    Filter,
+    /// The name of a test.
+    Test,
+    /// The name of a variable or a function, with which an operand begins.
+    Operand,
 }
 
 /// What may be typed at a place, and where what is typed of it begins.
@@ -34,8 +40,9 @@ pub struct Completion {
 
 /// What may be typed at a byte of a text that is in these pieces and ends at `last`: after the start of a tag the word
 /// of a statement, after a `</` and a `<` that is not a comparison the name of a component, in the string after
-/// `extends` and `include` that of a template, and after the name of a component that is called that of an argument,
-/// where no value is to come.
+/// `extends` and `include` that of a template, after a `|` and the statement `filter` that of a filter, after `is` and
+/// `is not` that of a test, after `{{` and after a word that an operand follows that of a variable or a function, and
+/// after the name of a component that is called that of an argument, where no value is to come.
 pub fn completion_for(pieces: &[Piece<'_>], last: usize, byte: usize) -> Option<Completion>
     ensures { result ≡ option_map (specs.completion_at byte)
         (specs.slot_of last byte (map part_of pieces.now)) }
@@ -87,7 +94,7 @@ fn argument_at(pieces: &[Piece<'_>], last: usize, byte: usize) -> Option<Slot>
     None
 }
 
-fn begins_call(before: Before, token: &Token<'_>) -> bool
+pub(crate) fn begins_call(before: Before, token: &Token<'_>) -> bool
     ensures { result ≡ specs.begins_call before (seen token.now) }
 {
     matches!(token, Token::LessThan) && !matches!(before, Before::Operand)
@@ -113,15 +120,15 @@ fn called_at(last: usize, following: &[Piece<'_>], byte: usize) -> Option<Slot>
 // Where in a call a token is: the byte after the one before it, whether a value is to come, and how many brackets are
 // open.
 #[derive(Clone, Copy)]
-struct Inside {
-    from: usize,
-    valued: bool,
-    depth: usize,
+pub(crate) struct Inside {
+    pub(crate) from: usize,
+    pub(crate) valued: bool,
+    pub(crate) depth: usize,
 }
 
 // What a token is in a call.
 #[derive(Clone, Copy)]
-enum Role {
+pub(crate) enum Role {
     Word,
     Equals,
     Opening,
@@ -200,7 +207,7 @@ fn argument_before(
 }
 
 // Where the next token comes after one that ends with the byte; nowhere, if the call ends.
-fn inside_after(inside: Inside, role: Role, end: usize) -> Option<Inside>
+pub(crate) fn inside_after(inside: Inside, role: Role, end: usize) -> Option<Inside>
     requires { inside.depth < usize.MAX }
     ensures { result ≡ specs.inside_after inside role end }
 {
@@ -228,7 +235,7 @@ fn inside_after(inside: Inside, role: Role, end: usize) -> Option<Inside>
     }
 }
 
-fn role_of(token: &Token<'_>) -> Role
+pub(crate) fn role_of(token: &Token<'_>) -> Role
     ensures { result ≡ specs.role_of (seen token.now) }
 {
     match token {
@@ -279,22 +286,90 @@ fn slot_after(
             piece.end,
             following,
         )),
+        Token::VariableStart(_) => Some(name_slot(
+            CompletionKind::Operand,
+            last,
+            piece.end,
+            following,
+        )),
         Token::LessThan if matches!(before, Before::Operand) => None,
         Token::LessThan | Token::ClosingTagStart => {
             Some(name_slot(CompletionKind::Component, last, piece.end, following))
         }
-        Token::Ident(word) if matches!(before, Before::Tag) => word_slot(word, following),
+        Token::Pipe => Some(name_slot(CompletionKind::Filter, last, piece.end, following)),
+        Token::Ident(word) => word_place(last, before, piece.end, word, following),
         _ => None,
     }
 }
 
-// The place of a template's name after the first word of a tag.
-fn word_slot(word: &str, following: &[Piece<'_>]) -> Option<Slot>
-    ensures { result ≡ specs.word_slot word.now (map part_of following.now) }
+// The place of a name after a word that ends with the byte.
+fn word_place(
+    last: usize,
+    before: Before,
+    end: usize,
+    word: &str,
+    following: &[Piece<'_>],
+) -> Option<Slot>
+    ensures { result ≡ specs.word_place last before end word.now (map part_of following.now) }
+{
+    if matches!(before, Before::Tag) {
+        return word_slot(last, end, word, following);
+    }
+    match word {
+        "is" => test_slot(last, end, following),
+        "and" | "or" | "not" | "in" | "if" | "else" => {
+            spaced_slot(CompletionKind::Operand, last, end, following)
+        }
+        _ => None,
+    }
+}
+
+// The place of a template's or a filter's name after the first word of a tag, which ends with the byte.
+fn word_slot(last: usize, end: usize, word: &str, following: &[Piece<'_>]) -> Option<Slot>
+    ensures { result ≡ specs.word_slot last end word.now (map part_of following.now) }
 {
     match word {
         "extends" | "include" => string_slot(following),
+        "filter" => spaced_slot(CompletionKind::Filter, last, end, following),
+        "if" | "elif" => spaced_slot(CompletionKind::Operand, last, end, following),
         _ => None,
+    }
+}
+
+// The place of a test's name after an `is` that ends with the byte, and the `not` after it.
+fn test_slot(last: usize, end: usize, following: &[Piece<'_>]) -> Option<Slot>
+    ensures { result ≡ specs.test_slot last end (map part_of following.now) }
+{
+    match following {
+        [next, rest @ ..] if is_not(&next.token) => {
+            spaced_slot(CompletionKind::Test, last, next.end, rest)
+        }
+        _ => spaced_slot(CompletionKind::Test, last, end, following),
+    }
+}
+
+fn is_not(token: &Token<'_>) -> bool
+    ensures { result ≡ specs.is_not (seen token.now) }
+{
+    match token {
+        Token::Ident(word) => *word == "not",
+        _ => false,
+    }
+}
+
+// The place of a name after a word that ends with the byte, if something is between the word and the next token.
+fn spaced_slot(
+    kind: CompletionKind,
+    last: usize,
+    end: usize,
+    following: &[Piece<'_>],
+) -> Option<Slot>
+    ensures { result ≡ specs.spaced_slot kind last end (map part_of following.now) }
+{
+    if end < gap_end(last, following) {
+        Some(name_slot(kind, last, end + 1, following))
+    } else {
+        None
     }
 }
 

@@ -8,10 +8,13 @@
 //! In the order of reading: specs `Edits`; `edits`, a layout as edits of white space; specs `Pieces`; `pieces`, the
 //! tokens with their bytes; specs `Dotted` and `Symbols`; `symbols`, the outline; specs `Names`; `names`, what is
 //! called, defined, extended and included; specs `Heads`; `heads`, what the definition of a component begins with;
-//! specs `Completions`; `completions`, what may be typed; specs `SemanticTokens`; `semantic_tokens`, what is coloured;
-//! `dotted`, which reads names with dots; `laws`.
+//! specs `Completions`; `completions`, what may be typed; specs `Bound`; `bound`, the variables that are bound; specs
+//! `Calls`; `calls`, the call at a place; specs `SemanticTokens`; `semantic_tokens`, what is coloured; `dotted`, which
+//! reads names with dots; `laws`.
 #![tactic(auto)]
 
+mod bound;
+mod calls;
 mod completions;
 mod dotted;
 mod edits;
@@ -22,6 +25,8 @@ mod pieces;
 mod semantic_tokens;
 mod symbols;
 
+pub use bound::bound_of;
+pub use calls::{InCall, call_at};
 pub use completions::{Completion, CompletionKind, completion_for};
 pub use edits::{Edit, edits_of};
 pub use heads::head_of;

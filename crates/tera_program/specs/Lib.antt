@@ -4,6 +4,7 @@ pub mod Counting
 pub mod Ends
 pub mod Fixing
 pub mod Forms
+pub mod Helps
 pub mod Found
 pub mod Jobs
 pub mod Lines

@@ -1,5 +1,5 @@
 -- What is reported for templates, and how the program ends.
-use Rattle.std.specs.Prelude.{◌≡◌, ◌<◌, ◌&&◌, ◌||◌, ℕ, List, Bool, true, false, nat_lt, map, length, take, Option, None, Some, is_some, Result, Ok, Err, MatchResult, vec_len}
+use Rattle.std.specs.Prelude.{◌≡◌, ◌<◌, ◌&&◌, ◌||◌, ℕ, List, Bool, true, false, nat_eq, nat_lt, map, length, take, Option, None, Some, is_some, Result, Ok, Err, MatchResult, vec_len}
 use Rattle.std.specs.declared.alloc.AllocError.{AllocError}
 use Rattle.std.specs.Io.KnownBytes.{Appends, Keeps}
 use Rattle.std.specs.List.{list_any}
@@ -7,11 +7,15 @@ use Rattle.std.specs.declared.io.Error.{Error}
 use Rattle.tera_check.specs.Levels.{AreReportedOf}
 use Rattle.tera_check.specs.Registered.{RegisteredVal}
 use Rattle.tera_check.specs.Unknown.{AreWithUnknown}
+use Rattle.tera_check.specs.UnusedComponents.{AreWithUnusedComponents}
 use Rattle.tera_check.specs.declared.finding.Kind.{Kind}
+use Rattle.tera_check.specs.declared.finding.Kind.TheVariants as kinds
 use Rattle.tera_check.specs.declared.finding.Severity.{Severity}
 use Rattle.tera_check.specs.declared.templates.Template.{Template}
 use Rattle.terminal_text.specs.declared.style.Style.{Style}
+use Rattle.tera_files.specs.declared.reading.Source.{Source}
 use Rattle.tera_program.specs.Forms.{text_of}
+use Rattle.tera_program.specs.Helps.{AreHelps, Help, help_in}
 use Rattle.tera_check.specs.Lost.{are_open}
 use Rattle.tera_check.specs.Found.{AreFound, found_view, known_by}
 use Rattle.tera_program.specs.Found.{count_in, faulty_in, is_wrong}
@@ -40,21 +44,35 @@ abbrev pub AreWithUnknownIf : Option RegisteredVal → List Template → ℕ →
 AreWithUnknownIf None templates checked found all = all ≡ found
 AreWithUnknownIf (Some r) templates checked found all = AreWithUnknown r templates checked found all
 
--- all that is found in the templates
-pub record AreAllFound (templates : List Template) (names : Option SiteNames) (registered : Option RegisteredVal) (checked : ℕ) (all : List Found) : Type 0 where
+-- the components that no template calls are added, where that is asked for
+abbrev pub AreWithUnusedIf : Bool → List Template → ℕ → List Found → List Found → Type 0
+AreWithUnusedIf false templates checked found all = all ≡ found
+AreWithUnusedIf true templates checked found all = AreWithUnusedComponents templates checked found all
+
+-- Components that no template calls are looked for if their rule is on, and each file could be read: one that could not may
+-- call any.
+abbrev pub looks_for_unused : List UnreadVal → (Kind → Option Severity) → Bool
+looks_for_unused unread level = nat_eq (length unread) 0 && is_some (level kinds.UnusedComponent)
+
+-- all that is found in the templates, by rules that are not off, where these could not be read
+pub record AreAllFound (unread : List UnreadVal) (templates : List Template) (names : Option SiteNames) (registered : Option RegisteredVal) (checked : ℕ) (level : Kind → Option Severity) (all : List Found) : Type 0 where
   pub found : List Found
   pub are : AreFound (known_by templates) (are_open templates) checked 0 templates found
   pub named : List Found
   pub with_names : AreWithNames names templates checked found named
-  pub with_unknown : AreWithUnknownIf registered templates checked named all
+  pub more : List Found
+  pub with_unknown : AreWithUnknownIf registered templates checked named more
+  pub with_unused : AreWithUnusedIf (looks_for_unused unread level) templates checked more all
 
 -- what could not be read and what was found in the templates and is to be reported was written whole, or a beginning of it, and counted
-pub record IsReported (form : Form) (style : Style) (known : Known) (unread : List UnreadVal) (templates : List Template) (names : Option SiteNames) (registered : Option RegisteredVal) (checked : ℕ) (level : Kind → Option Severity) (old new : Option (List ℕ)) (report : Report) : Type 0 where
+pub record IsReported (form : Form) (style : Style) (known : Known) (unread : List UnreadVal) (templates : List Template) (sources : List Source) (names : Option SiteNames) (registered : Option RegisteredVal) (checked : ℕ) (level : Kind → Option Severity) (old new : Option (List ℕ)) (report : Report) : Type 0 where
   pub found : List Found
-  pub are : AreAllFound templates names registered checked found
+  pub are : AreAllFound unread templates names registered checked level found
   pub all : List Found
   pub reported : AreReportedOf level found all
-  pub written : Takes old new (text_of form style known unread (map found_view all)) report.stopped
+  pub helps : List Help
+  pub helped : AreHelps form templates sources all helps
+  pub written : Takes old new (text_of form style known (help_in helps) unread (map found_view all)) report.stopped
   pub errors : report.errors ≡ list_any is_wrong all
   pub findings : report.findings ≡ count_in all
   pub faulty : report.faulty ≡ faulty_in all
@@ -75,7 +93,7 @@ ended_of (Err error) strict unread = record { found = false; failed = true }
 pub record IsChecked (form : Form) (style : Style) (registered : Option RegisteredVal) (level : Kind → Option Severity) (strict : Bool) (all : Templates) (old new : Option (List ℕ)) (ended : Ended) : Type 0 where
   pub report : Result Report AllocError
   pub written : MatchResult report
-      (IsReported form style (with_sources nothing all.sources.items) (map unreadable_view all.unread.items) all.templates.items
+      (IsReported form style (with_sources nothing all.sources.items) (map unreadable_view all.unread.items) all.templates.items all.sources.items
       all.names registered all.checked level old new)
       (λ _. Keeps old new)
   pub ends : ended ≡ ended_of report strict (vec_len all.unread)

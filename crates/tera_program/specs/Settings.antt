@@ -1,6 +1,6 @@
 -- What a file of settings says.
 use denote.Ref.{Bor}
-use Rattle.std.specs.Prelude.{◌≡◌, ℕ, Bool, true, false, List, [], ◌++◌, Option, None, Some, codes, filter, map, option_map, string_bytes, unwrap_or, Vec}
+use Rattle.std.specs.Prelude.{◌≡◌, ℕ, List, [], ◌++◌, Option, None, Some, codes, map, option_map, string_bytes, unwrap_or, Vec}
 use Rattle.std.specs.Fmt.{decimal}
 use Rattle.std.specs.declared.alloc.Global.{Global}
 use Rattle.tera_files.specs.Names.{texts}
@@ -74,17 +74,6 @@ defaults_val d = record {
 abbrev pub AreRegistered : Known → Option RegisteredVal → Type 0
 AreRegistered known None = (known.filters ≡ None) × (known.tests ≡ None) × (known.functions ≡ None)
 AreRegistered known (Some r) = AreListed (texts_view known.filters) (texts_view known.tests) (texts_view known.functions) r
-
--- the names of the rules that are off
-abbrev pub is_off_level : Level → Bool
-is_off_level levels.Off = true
-is_off_level _ = false
-
-abbrev pub is_off : RuleLevel → Bool
-is_off rule = is_off_level rule.level
-
-abbrev pub off_rules : List RuleLevel → List (List ℕ)
-off_rules rules = map (λ rule. string_bytes rule.rule) (filter is_off rules)
 
 -- some texts; none if they are not given
 abbrev pub or_none : Option (List (List ℕ)) → List (List ℕ)

@@ -1,5 +1,6 @@
 -- Sources by the names of their files, and the templates that are read of them.
 use Rattle.std.specs.Prelude.{◌≡◌, ◌++◌, ℕ, List, [], ◌∷◌, Bool, true, false, Option, None, Some, IfErr, IfOk, IfSome, if◌then◌else◌, bytes_eq, map, string_bytes}
+use Rattle.tera_check.specs.Bodies.{HasHidden}
 use Rattle.tera_check.specs.Ignores.{AreIgnoresIn}
 use Rattle.tera_check.specs.Mended.{IsMended}
 use Rattle.tera_check.specs.declared.templates.Template.{Template}
@@ -42,6 +43,7 @@ pub record IsReadFrom (m : Marks) (file source : List ℕ) (faults : ℕ) (templ
   pub lost : IfErr template.parsed (LosesSource usual m source)
   pub mended : IfSome template.mended (IsMended file source faults)
   pub ignores : AreIgnoresIn m source template
+  pub hidden : HasHidden template
 
 -- What is kept of a source: itself, or nothing.
 abbrev pub AddsKept : Bool → List ℕ → List ℕ → List Source → List Source → Type 0

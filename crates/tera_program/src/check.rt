@@ -215,8 +215,8 @@ fn write_all_findings<W: Write>(
 ) -> Result<Report, AllocError>
     ensures report { IfOk result (IsReported job.now.form style
         (with_sources nothing all.now.sources.items) (map unreadable_view all.now.unread.items)
-        all.now.templates.items all.now.names (registered_if_any registered.entry) all.now.checked
-        (level_of job.now.rules) (W.contents writer.old) (W.contents writer.new)) }
+        all.now.templates.items all.now.sources.items all.now.names (registered_if_any registered.entry)
+        all.now.checked (level_of job.now.rules) (W.contents writer.old) (W.contents writer.new)) }
     ensures memory { OnErr result (Keeps (W.contents writer.old) (W.contents writer.new)) }
 {
     let mut sources = all.texts(alloc)?;
@@ -228,6 +228,7 @@ fn write_all_findings<W: Write>(
         &mut sources,
         &all.unread,
         &all.templates,
+        all.sources.as_slice(),
         &all.names,
         registered,
         all.checked,

@@ -5,14 +5,16 @@
 use tera_check::Kind;
 
 /// The names of the rules.
-pub(crate) static RULES: [&str; 20] = [
+pub(crate) static RULES: [&str; 22] = [
     "fault",
     "undefined-component",
     "missing-argument",
     "unknown-argument",
     "wrong-type",
     "repeated-argument",
+    "unused-body",
     "unused-parameter",
+    "unused-component",
     "defined-again",
     "repeated-key",
     "repeated-condition",
@@ -29,13 +31,15 @@ pub(crate) static RULES: [&str; 20] = [
 ];
 
 /// Those of which no findings may be asked for.
-pub(crate) static OPTIONAL_RULES: [&str; 18] = [
+pub(crate) static OPTIONAL_RULES: [&str; 20] = [
     "undefined-component",
     "missing-argument",
     "unknown-argument",
     "wrong-type",
     "repeated-argument",
+    "unused-body",
     "unused-parameter",
+    "unused-component",
     "defined-again",
     "repeated-key",
     "repeated-condition",
@@ -59,7 +63,9 @@ pub(crate) fn explanation(kind: Kind) -> &'static str {
         Kind::UnknownArgument => UNKNOWN_ARGUMENT,
         Kind::WrongType => WRONG_TYPE,
         Kind::RepeatedArgument => REPEATED_ARGUMENT,
+        Kind::UnusedBody => UNUSED_BODY,
         Kind::UnusedParameter => UNUSED_PARAMETER,
+        Kind::UnusedComponent => UNUSED_COMPONENT,
         Kind::DefinedAgain => DEFINED_AGAIN,
         Kind::RepeatedKey => REPEATED_KEY,
         Kind::RepeatedCondition => REPEATED_CONDITION,
@@ -148,6 +154,19 @@ Remove the value that is not meant:
     {{<box title="Sport"/>}}
 "##;
 
+const UNUSED_BODY: &str = r##"
+A call gives a body to a component that never shows it: its definition has none of the variables `body` and
+`__tera_context`, and no `include`. So what is between the tags of the call is not shown. If that is white space alone, nothing is reported.
+
+    {% component box(title: string) %}{{ title }}{% endcomponent %}
+    {% <box title="News"> %}Rain{% </box> %}
+
+Call the component without a body, or let it show the body:
+
+    {% component box(title: string) %}{{ title }}: {{ body }}{% endcomponent %}
+    {% <box title="News"> %}Rain{% </box> %}
+"##;
+
 const UNUSED_PARAMETER: &str = r##"
 Nothing in the body of a component names one of its parameters. So what calls pass for it has no effect.
 
@@ -156,6 +175,26 @@ Nothing in the body of a component names one of its parameters. So what calls pa
 Use the parameter, or remove it. If callers have to pass it, let its name begin with `_`:
 
     {% component box(title: string) %}{{ title }}{% endcomponent %}
+"##;
+
+const UNUSED_COMPONENT: &str = r##"
+No template calls a component, so no template shows it. A call in any file that is read counts, also in one of a library.
+The program that renders the templates may show components by itself, so this rule is off. It is on with `--select`, or
+in `tera.toml`:
+
+    [rules]
+    unused-component = "warning"
+
+Check all files of a site together, or set its root. Then this is reported, if no other file calls `panel`:
+
+    {% component box(title: string) %}{{ title }}{% endcomponent %}
+    {% component panel(title: string) %}<p>{{ title }}</p>{% endcomponent %}
+    {{<box title="News"/>}}
+
+Remove the component. If the program shows it, silence the finding:
+
+    {# tera-ignore: unused-component #}
+    {% component panel(title: string) %}<p>{{ title }}</p>{% endcomponent %}
 "##;
 
 const DEFINED_AGAIN: &str = r##"

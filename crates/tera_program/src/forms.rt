@@ -1,25 +1,29 @@
 //! Findings, and files that could not be read, as text in each form.
 
-ghost use Rattle.std.specs.Prelude.{◌≡◌, ◌++◌, ◌∷◌, [], ℕ, List, IfOk, OnOk, map};
+ghost use Rattle.std.specs.Prelude.{◌≡◌, ◌++◌, ◌∷◌, [], ℕ, List, IfOk, OnOk, map, string_bytes};
 ghost use Rattle.json.specs.Print.{print};
 ghost use Rattle.json_members.specs.Written.{Puts};
 ghost use Rattle.std.specs.List.{flat_map};
+ghost use Rattle.std.specs.Option.{option_map};
 ghost use Rattle.tera_check.specs.Findings.{finding_view};
 ghost use Rattle.tera_report.specs.Logs.{result_object};
 ghost use Rattle.terminal_text.specs.Files.{source_of};
 ghost use Rattle.tera_report.specs.Unread.{unread_result};
-ghost use Rattle.tera_program.specs.Forms.{text_of, finding_text, unread_text, log_of, of_each, of_unread};
+ghost use Rattle.tera_program.specs.Forms.{text_of, all_from, each_from, finding_text, help_text, unread_text, log_of, of_each, of_unread};
+ghost use Rattle.tera_program.specs.Helps.{help_in};
 ghost use Rattle.tera_check.specs.Found.{found_view};
 ghost use Rattle.tera_program.specs.Sources.{unreadable_view};
 
+use crate::helps::help_at;
 use crate::job::Form;
 use crate::reading::Unreadable;
 use json::Writer;
 use std::alloc::{AllocError, Global};
 use tera_check::{Finding, Found, object_of, unread_object_of};
+use tera_fixes::Suggestion;
 use tera_report::{
-    begin_log, end_log, push_annotation, push_full, push_lines, push_unread_annotation, put_result,
-    put_unread,
+    begin_log, end_log, push_annotation, push_full, push_help, push_lines, push_unread_annotation,
+    put_result, put_unread,
 };
 use tera_server::VERSION;
 use terminal_text::{Sources, Style};
@@ -27,23 +31,24 @@ use terminal_text::{Sources, Style};
 // Most findings are reported in so many bytes.
 const ROOM: usize = 1024;
 
-/// The text of files that could not be read, and of what is found in some templates.
+/// The text of files that could not be read, and of what is found in some templates, with what is suggested for it.
 pub(crate) fn text_of(
     alloc: Global,
     form: Form,
     style: Style,
     sources: &mut Sources<'_>,
+    helps: &[Vec<Option<Suggestion>>],
     unread: &[Unreadable],
     all: &[Found<'_>],
 ) -> Result<Vec<u8>, AllocError>
     ensures { IfOk result (λ text. text.items ≡ text_of form style (source_of sources.old)
-        (map unreadable_view unread.now) (map found_view all.now)) }
+        (help_in helps.now) (map unreadable_view unread.now) (map found_view all.now)) }
 {
     match form {
         Form::Sarif => log_of(alloc, unread, all),
         _ => {
             let mut text = unread_texts(alloc, form, unread)?;
-            push_all(alloc, &mut text, form, style, sources, all)?;
+            push_all(alloc, &mut text, form, style, sources, helps, all)?;
             Ok(text)
         }
     }
@@ -89,13 +94,15 @@ fn push_all(
     form: Form,
     style: Style,
     sources: &mut Sources<'_>,
+    helps: &[Vec<Option<Suggestion>>],
     all: &[Found<'_>],
 ) -> Result<(), AllocError>
-    ensures { OnOk result (to.new.items ≡ to.old.items ++ flat_map
-        (of_each (finding_text form style (source_of sources.old))) (map found_view all.now)) }
+    ensures { OnOk result (to.new.items ≡ to.old.items
+        ++ all_from (finding_text form style (source_of sources.old)) (help_in helps.now) 0
+        (map found_view all.now)) }
 {
-    for found in all {
-        push_found(alloc, to, form, style, sources, found.file, &found.findings)?;
+    for (number, found) in all.iter().enumerate() {
+        push_found(alloc, to, form, style, sources, helps, number, found)?;
     }
     Ok(())
 }
@@ -106,16 +113,18 @@ fn push_found(
     form: Form,
     style: Style,
     sources: &mut Sources<'_>,
-    file: &str,
-    findings: &Vec<Finding>,
+    helps: &[Vec<Option<Suggestion>>],
+    number: usize,
+    found: &Found<'_>,
 ) -> Result<(), AllocError>
-    ensures text { OnOk result (to.new.items ≡ to.old.items ++ flat_map
-        (finding_text form style (source_of sources.old) file.now)
-        (map finding_view findings.now.items)) }
+    ensures text { OnOk result (to.new.items ≡ to.old.items
+        ++ each_from (finding_text form style (source_of sources.old) found.now.file.now)
+        (help_in helps.now number) 0 (map finding_view found.now.findings.items)) }
     ensures same { (other : List ℕ) → source_of sources.new other ≡ source_of sources.old other }
 {
-    for finding in findings {
-        push_finding(alloc, to, form, style, sources, file, finding)?;
+    for (at, finding) in found.findings.iter().enumerate() {
+        let help = help_at(helps, number, at);
+        push_finding(alloc, to, form, style, sources, found.file, help, finding)?;
     }
     Ok(())
 }
@@ -127,16 +136,19 @@ fn push_finding(
     style: Style,
     sources: &mut Sources<'_>,
     file: &str,
+    help: Option<&str>,
     finding: &Finding,
 ) -> Result<(), AllocError>
     ensures text { OnOk result (to.new.items ≡ to.old.items
-        ++ finding_text form style (source_of sources.old) file.now (finding_view finding.now)) }
+        ++ finding_text form style (source_of sources.old) file.now
+        (option_map (λ t. t.now) help.entry) (finding_view finding.now)) }
     ensures same { (other : List ℕ) → source_of sources.new other ≡ source_of sources.old other }
 {
     match form {
         Form::Full => {
             let mut text = String::with_capacity(alloc, ROOM)?;
             push_full(alloc, &mut text, style, file, sources, finding)?;
+            push_help_if_any(alloc, &mut text, style, file, help, finding)?;
             to.extend_from_slice(text.as_bytes())
         }
         Form::Concise => {
@@ -152,6 +164,24 @@ fn push_finding(
         }
         // A log has no text of single findings.
         Form::Sarif => Ok(()),
+    }
+}
+
+// Adds the line of what is suggested for the finding, if anything is.
+fn push_help_if_any(
+    alloc: Global,
+    to: &mut String,
+    style: Style,
+    file: &str,
+    help: Option<&str>,
+    finding: &Finding,
+) -> Result<(), AllocError>
+    ensures { OnOk result (string_bytes to.new ≡ string_bytes to.old
+        ++ help_text style file.now (option_map (λ t. t.now) help.entry) (finding_view finding.now)) }
+{
+    match help {
+        Some(help) => push_help(alloc, to, style, file, finding, help),
+        None => Ok(()),
     }
 }
 

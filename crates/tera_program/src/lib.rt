@@ -6,9 +6,9 @@
 //!
 //! In the order of reading: `options`, the words; `job`, what they ask; `status`, how it ends; `colours` and `output`;
 //! `settings`, what a file of settings says; `excluded` and `reading`, the templates; `site`, their names in a site;
-//! `found`, `forms` and `reporting`, what is found in them, counted and as text; `counting`, the last line; `fixing`,
-//! what is put right in files; `plan` and `markers`, what a file becomes; `sending`, the messages to an editor; then a
-//! module for each subcommand.
+//! `found`, `helps`, `forms` and `reporting`, what is found in them, counted and as text; `counting`, the last line;
+//! `fixing`, what is put right in files; `plan` and `markers`, what a file becomes; `sending`, the messages to an editor;
+//! then a module for each subcommand.
 #![tactic(auto)]
 
 mod aside;
@@ -23,6 +23,7 @@ mod fixing;
 mod format;
 mod forms;
 mod found;
+mod helps;
 mod job;
 mod markers;
 mod options;

@@ -1,21 +1,26 @@
 //! What is found in templates, written.
 
-ghost use Rattle.std.specs.Prelude.{IfOk, OnErr, OnOk, map};
+ghost use Rattle.std.specs.Prelude.{◌≡◌, IfOk, OnErr, OnOk, map};
 ghost use Rattle.std.specs.Io.KnownBytes.{Keeps};
 ghost use Rattle.terminal_text.specs.Files.{source_of};
 ghost use Rattle.tera_program.specs.Sources.{unreadable_view};
 ghost use Rattle.tera_check.specs.Levels.{level_of};
 ghost use Rattle.tera_check.specs.Registered.{registered_if_any};
-ghost use Rattle.tera_program.specs.Report.{AreAllFound, AreWithNames, AreWithUnknownIf, IsReported};
+ghost use Rattle.tera_program.specs.Report.{AreAllFound, AreWithNames, AreWithUnknownIf, AreWithUnusedIf, IsReported, looks_for_unused};
 
 use crate::forms::text_of;
 use crate::found::{count_of, faulty_of, has_error};
+use crate::helps::helps_for;
 use crate::job::Form;
 use crate::reading::Unreadable;
 use std::alloc::{AllocError, Global};
 use std::io;
 use std::io::Write;
-use tera_check::{Found, Levels, Registered, Template, add_unknown, all_found, leave_reported};
+use tera_check::{
+    Found, Kind, Levels, Registered, Template, add_unknown, add_unused_components, all_found,
+    leave_reported,
+};
+use tera_files::Source;
 use tera_show::write_all;
 use tera_site::{SiteNames, add_names};
 use terminal_text::{Sources, Style};
@@ -43,24 +48,27 @@ pub(crate) fn write_findings<'t, W: Write>(
     sources: &mut Sources<'_>,
     unread: &Vec<Unreadable>,
     templates: &'t Vec<Template>,
+    texts: &[Source],
     names: &'t Option<SiteNames>,
     registered: Option<&Registered<'_>>,
     checked: usize,
     levels: Levels<'_, '_>,
 ) -> Result<Report, AllocError>
     ensures report { IfOk result (IsReported form style (source_of sources.old)
-        (map unreadable_view unread.now.items) templates.now.items names.now
+        (map unreadable_view unread.now.items) templates.now.items texts.now names.now
         (registered_if_any registered.entry) checked (level_of levels.entry)
         (W.contents writer.old) (W.contents writer.new)) }
     ensures memory { OnErr result (Keeps (W.contents writer.old) (W.contents writer.new)) }
 {
-    let mut all = found_in(alloc, templates, names, registered, checked)?;
+    let mut all = found_in(alloc, unread, templates, names, registered, checked, levels)?;
     leave_reported(&mut all, levels);
+    let helps = helps_for(alloc, form, templates, texts, all.as_slice())?;
     let text = text_of(
         alloc,
         form,
         style,
         sources,
+        helps.as_slice(),
         unread.as_slice(),
         all.as_slice(),
     )?;
@@ -72,21 +80,26 @@ pub(crate) fn write_findings<'t, W: Write>(
     })
 }
 
-// What is found in each template: of itself and its components, of names, and of what the program registers, where these
-// are known.
+// What is found in each template: of itself and its components; of names, and of what the program registers, where these
+// are known; and of components that no template calls, where these are looked for.
 fn found_in<'a>(
     alloc: Global,
+    unread: &Vec<Unreadable>,
     templates: &'a Vec<Template>,
     names: &'a Option<SiteNames>,
     registered: Option<&Registered<'_>>,
     checked: usize,
+    levels: Levels<'_, '_>,
 ) -> Result<Vec<Found<'a>>, AllocError>
-    ensures { IfOk result (λ all. AreAllFound templates.now.items names.now
-        (registered_if_any registered.entry) checked all.items) }
+    ensures { IfOk result (λ all. AreAllFound (map unreadable_view unread.now.items)
+        templates.now.items names.now (registered_if_any registered.entry) checked
+        (level_of levels.entry) all.items) }
 {
     let mut all = all_found(alloc, templates, checked)?;
     add_if_named(alloc, names, templates, checked, &mut all)?;
     add_if_registered(alloc, registered, templates, checked, &mut all)?;
+    let looks = looks_for_unused(unread, levels);
+    add_unused_if(alloc, looks, templates, checked, &mut all)?;
     Ok(all)
 }
 
@@ -119,5 +132,31 @@ fn add_if_registered(
     match registered {
         Some(registered) => add_unknown(alloc, registered, templates, checked, all),
         None => Ok(()),
+    }
+}
+
+// Whether components that no template calls are looked for: their rule is on, and each file could be read. One that could
+// not may call any.
+fn looks_for_unused(unread: &Vec<Unreadable>, levels: Levels<'_, '_>) -> bool
+    ensures { result ≡ looks_for_unused (map unreadable_view unread.now.items)
+        (level_of levels.entry) }
+{
+    unread.is_empty() && levels.level(Kind::UnusedComponent).is_some()
+}
+
+fn add_unused_if(
+    alloc: Global,
+    looks: bool,
+    templates: &Vec<Template>,
+    checked: usize,
+    all: &mut Vec<Found<'_>>,
+) -> Result<(), AllocError>
+    ensures { OnOk result (AreWithUnusedIf looks templates.now.items checked
+        all.old.items all.new.items) }
+{
+    if looks {
+        add_unused_components(alloc, templates, checked, all)
+    } else {
+        Ok(())
     }
 }

@@ -5,8 +5,9 @@ ghost use Rattle.tera_files.specs.Names.{texts};
 ghost use Rattle.tera_settings.specs.Values.{text_view, texts_view};
 ghost use Rattle.tera_check.specs.Registered.{AreListed, list_view, registered_if_any, registered_view};
 ghost use Rattle.settings_files.specs.Paths.{all_led_from, led_from};
+ghost use Rattle.tera_server.specs.Settings.{rule_view};
 ghost use Rattle.tera_program.specs.Jobs.{lists_view, set_view};
-ghost use Rattle.tera_program.specs.Settings.{AreRegistered, defaults_val, is_off, off_rules, or_none, place_text, set_of, severity_at, site_val, words_val, words_view};
+ghost use Rattle.tera_program.specs.Settings.{AreRegistered, defaults_val, or_none, place_text, set_of, severity_at, site_val, words_val, words_view};
 
 use crate::explanations::OPTIONAL_RULES;
 use crate::job::{Common, Defaults, Job};
@@ -22,7 +23,7 @@ use std::alloc::{AllocError, Global};
 use std::path::Path;
 use std::rt::Files;
 use tera_check::{Registered, RuleLevel, Severity};
-use tera_server::{FolderSettings, FoundSettings, Reason};
+use tera_server::{FolderSettings, FoundSettings, Reason, RuleSetting};
 use tera_settings::{Known, Level, Settings};
 
 /// What a file of settings says. All is absent if there is none.
@@ -323,23 +324,22 @@ fn why_not_markers(alloc: Global, is_laid_out: bool, markers: &str) -> Option<ma
     }
 }
 
-// The names of the rules that are off.
-fn off_of(alloc: Global, rules: &[tera_settings::RuleLevel]) -> Result<Vec<String>, AllocError>
-    ensures { IfOk result (λ off. map string_bytes off.items ≡ off_rules rules.now) }
+// What the rules are set to, as a server has it.
+fn rules_of(
+    alloc: Global,
+    rules: &[tera_settings::RuleLevel],
+) -> Result<Vec<RuleSetting>, AllocError>
+    ensures { IfOk result (λ set. map rule_view set.items ≡ map set_of rules.now) }
 {
-    let mut off = Vec::new(alloc);
+    let mut set = Vec::new(alloc);
     for rule in rules {
-        if is_off(rule) {
-            off.push(String::from_str(alloc, rule.rule.as_str())?)?;
-        }
+        let level = severity_at(rule.level);
+        set.push(RuleSetting {
+            rule: rule.rule.clone()?,
+            level,
+        })?;
     }
-    Ok(off)
-}
-
-fn is_off(rule: &tera_settings::RuleLevel) -> bool
-    ensures { result ≡ is_off rule.now }
-{
-    matches!(rule.level, Level::Off)
+    Ok(set)
 }
 
 /// What counts for the templates in a folder: the settings of the nearest file in it or above it.
@@ -363,22 +363,29 @@ fn found_in<R: Files + AllocGlobal>(rt: &R, file: Configured) -> Result<FoundSet
 }
 
 fn folder_settings<R: Files + AllocGlobal>(rt: &R, site: Site) -> Result<FolderSettings, AllocError>
-    ensures off { IfOk result (λ s. map string_bytes s.off.items ≡ off_rules site.rules.items) }
+    ensures rules { IfOk result (λ s. map rule_view s.rules.items ≡ map set_of site.rules.items) }
     ensures exclude { IfOk result (λ s.
         map string_bytes s.exclude.items ≡ or_none (texts_view site.exclude)) }
+    ensures known { IfOk result (λ s.
+        (s.filters ≡ site.known.filters) × (s.tests ≡ site.known.tests)
+        × (s.functions ≡ site.known.functions)) }
 {
     let Site {
         extensions,
         exclude,
         library,
         rules,
+        known,
         ..
     } = site;
     Ok(FolderSettings {
         extensions: without_points(rt.alloc(), &extensions)?,
         libraries: known_paths(rt, &or_empty(rt.alloc(), library))?,
         exclude: or_empty(rt.alloc(), exclude),
-        off: off_of(rt.alloc(), rules.as_slice())?,
+        rules: rules_of(rt.alloc(), rules.as_slice())?,
+        filters: known.filters,
+        tests: known.tests,
+        functions: known.functions,
     })
 }
 

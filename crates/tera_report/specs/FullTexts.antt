@@ -7,7 +7,7 @@ use Rattle.tera_check.specs.declared.finding.Place.{Place}
 use Rattle.tera_check.specs.declared.finding.Severity.{Severity}
 use Rattle.tera_check.specs.declared.finding.Severity.TheVariants as severities
 use Rattle.tera_report.specs.declared.role.Role.{Role}
-use Rattle.tera_report.specs.declared.role.Role.TheVariants.{Finding, Note}
+use Rattle.tera_report.specs.declared.role.Role.TheVariants.{Finding, Help, Note}
 use Rattle.terminal_text.specs.Excerpt.{excerpt}
 use Rattle.terminal_text.specs.Lines.{line_at}
 use Rattle.terminal_text.specs.Styled.{styled}
@@ -20,6 +20,7 @@ use Rattle.terminal_text.specs.declared.style.Style.{Style}
 abbrev pub word_of : Role → List ℕ
 word_of (Finding kind severity) = label_of kind severity
 word_of Note = codes "note"
+word_of Help = codes "help"
 
 abbrev pub colour_of : Severity → Part
 colour_of severities.Error = parts.Error
@@ -28,6 +29,7 @@ colour_of severities.Warning = parts.Warning
 abbrev pub part_of : Role → Part
 part_of (Finding kind severity) = colour_of severity
 part_of Note = parts.Note
+part_of Help = parts.Note
 
 -- a file with a place in it
 abbrev pub place_text : List ℕ → Place → List ℕ
@@ -41,6 +43,10 @@ marked_of s = record { line = s.start_line; start = s.start_col; end = if s.end_
 abbrev pub message_line : Style → Role → List ℕ → Span → List ℕ → List ℕ
 message_line style role file span text =
     styled style parts.Place (place_text file (place_of span)) ++ (codes " " ++ (styled style (part_of role) (word_of role) ++ (codes ": " ++ (on_one_line text ++ 10 ∷ []))))
+
+-- what may have been meant at the place of a finding
+abbrev pub help_line : Style → List ℕ → Span → List ℕ → List ℕ
+help_line style file span text = message_line style Help file span text
 
 -- with the line that it is about, where the source of the file is known
 abbrev pub message : Style → (List ℕ → Option (List ℕ)) → Role → List ℕ → Span → List ℕ → List ℕ

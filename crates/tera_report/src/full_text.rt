@@ -2,7 +2,7 @@
 
 ghost use Rattle.std.specs.Prelude.{◌≡◌, ◌++◌, ℕ, List, map, flat_map, string_bytes, IfOk, OnOk};
 ghost use Rattle.tera_check.specs.Findings.{finding_view, note_view};
-ghost use Rattle.tera_report.specs.FullTexts.{place_text as text_of_place, marked_of, message_line, message as message_text, note_text, full_text, lines_of};
+ghost use Rattle.tera_report.specs.FullTexts.{place_text as text_of_place, help_line, marked_of, message_line, message as message_text, note_text, full_text, lines_of};
 ghost use Rattle.terminal_text.specs.Files.{source_of};
 
 use crate::role::Role;
@@ -35,6 +35,27 @@ pub fn push_full(
     };
     push_message(alloc, to, style, sources, &message)?;
     push_notes(alloc, to, style, sources, &finding.notes)
+}
+
+/// Adds the line of what may have been meant where a finding is, `FILE:LINE:COLUMN: help: TEXT`.
+pub fn push_help(
+    alloc: Global,
+    to: &mut String,
+    style: Style,
+    file: &str,
+    finding: &Finding,
+    help: &str,
+) -> Result<(), AllocError>
+    ensures { OnOk result (string_bytes to.new
+        ≡ string_bytes to.old ++ help_line style file.now finding.now.span help.now) }
+{
+    let message = Message {
+        role: Role::Help,
+        file,
+        span: &finding.span,
+        text: help,
+    };
+    push_line(alloc, to, style, &message)
 }
 
 /// Adds the lines of the finding and of its notes alone, without colours.

@@ -17,7 +17,7 @@ mod sarif;
 mod trees;
 mod unread;
 
-pub use full_text::{push_full, push_lines};
+pub use full_text::{push_full, push_help, push_lines};
 pub use github::push_annotation;
 pub use sarif::{begin_log, end_log, put_result};
 pub use trees::tree_line_of;

@@ -7,13 +7,15 @@ use std::alloc::{AllocError, Global};
 use tera_check::{Kind, Severity};
 use terminal_text::Part;
 
-/// A finding, or what explains one.
+/// A finding, or what explains one or may have been meant.
 #[derive(Clone, Copy)]
 pub(crate) enum Role {
     /// A finding of this kind, that is so grave.
     Finding(Kind, Severity),
     /// What explains a finding.
     Note,
+    /// What may have been meant.
+    Help,
 }
 
 impl Role {
@@ -24,6 +26,7 @@ impl Role {
         match self {
             Role::Finding(kind, severity) => kind.label(alloc, severity),
             Role::Note => String::from_str(alloc, "note"),
+            Role::Help => String::from_str(alloc, "help"),
         }
     }
 
@@ -33,7 +36,7 @@ impl Role {
     {
         match self {
             Role::Finding(_, severity) => colour(severity),
-            Role::Note => Part::Note,
+            Role::Note | Role::Help => Part::Note,
         }
     }
 }

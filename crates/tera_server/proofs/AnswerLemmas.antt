@@ -23,25 +23,26 @@ use Rattle.tera_server.specs.Completions.{offered, defined_names}
 use Rattle.tera_server.specs.Definitions.{first_of, is_component, template_place, place_of}
 use Rattle.tera_server.specs.Hovers.{component_in, text_at, IsHeadIn, IsHeadBy, IsHead, IsOfDefinition}
 use Rattle.tera_server.specs.References.{LookedFor, refers, is_definition, reference_json, AreReferences, AreReferencesIn, IsLookedFor, IsReferenceIn, AreAllOf}
+use Rattle.tera_server.specs.Settings.{RegisteredVal}
 use Rattle.tera_server.specs.Templates.{template_name, template_in}
 use Rattle.tera_server.proofs.NearestLemmas.{has_its_name, leads}
 
 -- ---- what is offered
 
-module _ (w : Workspace) (folders : List (List ℕ)) (named : List Named) (n : List ℕ) where
-  pub offered_component : Contains (offered w folders named Component) n → ((d : DefinitionVal) × (definition_of_name w n ≡ Some d)) ⊎ Contains (defined_names named) n
+module _ (w : Workspace) (folders : List (List ℕ)) (r : RegisteredVal) (named : List Named) (bound : List (List ℕ)) (n : List ℕ) where
+  pub offered_component : Contains (offered w folders r named bound Component) n → ((d : DefinitionVal) × (definition_of_name w n ≡ Some d)) ⊎ Contains (defined_names named) n
   offered_component c = elim (Contains-append_cases (components_of w) (defined_names named) n c) [
     | inl c ↦ inl (reported_of_defined w.encoding (sources_of w.judged.items) (templates_of w.judged.items) n c)
     | inr c ↦ inr c
   ]
 
-  pub offered_template : Contains (offered w folders named Template) n → (f : List ℕ) × Contains (files_of w) f × (template_name folders f ≡ Some n) × (template_place w folders n ≡ Some (first_of f))
+  pub offered_template : Contains (offered w folders r named bound Template) n → (f : List ℕ) × Contains (files_of w) f × (template_name folders f ≡ Some n) × (template_place w folders n ≡ Some (first_of f))
   offered_template c =
       let (file, there, has) = in_filter_map (template_name folders) (files_of w) n c in
       let (f, is, named) = leads folders (files_of w) n file there has in
       (f, (has_its_name folders (files_of w) n f is).there, named, ap (option_map first_of) is)
 
-  pub offered_parameter : (call : ℕ) → Contains (offered w folders named (Argument call)) n → (m : Named) × (find (holds call) named ≡ Some m) × IsParameterIn (templates_of w.judged.items) m.text n
+  pub offered_parameter : (call : ℕ) → Contains (offered w folders r named bound (Argument call)) n → (m : Named) × (find (holds call) named ≡ Some m) × IsParameterIn (templates_of w.judged.items) m.text n
   offered_parameter call c = by (find (holds call) named) c
     where
       by : (o : Option Named) → Contains (option_map_or (λ m. parameters_of_name w m.text) o []) n → (m : Named) × (o ≡ Some m) × IsParameterIn (templates_of w.judged.items) m.text n

@@ -1,7 +1,7 @@
 -- Members that may be left out, as they are written.
-use Rattle.std.proofs.Common.{◌≡◌, ◌∙◌, ◌++◌, ◌∷◌, [], ℕ, List, Bool, true, false, cond, filter, if◌then◌else◌, Option, None, Some, codes, map, refl, ap, append_assoc}
-use Rattle.std.specs.List.{flat_map}
-use Rattle.std.specs.Option.{option_map, option_to_list}
+use Rattle.std.proofs.Common.{◌≡◌, ◌∙◌, ◌++◌, ◌∷◌, [], ℕ, List, Bool, true, false, Option, None, Some, codes, map, refl, ap, append_assoc}
+use Rattle.std.specs.List.{cons_option, flat_map}
+use Rattle.std.specs.Option.{option_map, option_map_or, option_to_list}
 use Rattle.json.specs.Json.{Json, Members}
 use Rattle.json.specs.Token.{Token, begin_object, end_object, begin_array, end_array, key, string}
 use Rattle.json.specs.Tree.{json_tokens, items_tokens, members_tokens}
@@ -9,7 +9,7 @@ use Rattle.json.specs.Value.{items_of}
 use Rattle.tera_workspace.specs.Diagnostics.{DiagnosticVal, RelatedVal}
 use Rattle.tera_server.specs.Editors.{seen_of, uri_in, version_in}
 use Rattle.tera_server.specs.Findings.{related_members, related_tokens, with_version, version_tokens, reason_json, reason_tokens, diagnostic_json, diagnostics_json, found_if_on, one_found, found_json}
-use Rattle.tera_server.specs.Settings.{Shown, is_shown}
+use Rattle.tera_server.specs.Settings.{Shown, shown_as, shown_in}
 use Rattle.tera_server.specs.UnreadFiles.{ReasonVal}
 use Rattle.tera_server.specs.declared.editor.Editor.{Editor}
 use Rattle.tera_server.proofs.ArrayLemmas.{items_written}
@@ -27,17 +27,17 @@ pub reason_written : (why : Option ReasonVal) (js : List Json) →
 reason_written None js = refl
 reason_written (Some r) js = refl
 
--- the findings that are on, each as it is written
+-- the findings that are reported, each as it is written
 pub on_written : (e : Editor) (reported : Bool) (shown : Shown) (ds : List DiagnosticVal) →
-    flat_map (found_if_on e reported shown) ds ≡ flat_map (one_found e reported) (filter (is_shown shown) ds)
+    flat_map (found_if_on e reported shown) ds ≡ flat_map (one_found e reported) (shown_in shown ds)
 on_written e reported shown [] = refl
-on_written e reported shown (d ∷ ds) = by (is_shown shown d) (on_written e reported shown ds)
+on_written e reported shown (d ∷ ds) = by (shown_as shown d) (on_written e reported shown ds)
   where
-    by : (on : Bool) → flat_map (found_if_on e reported shown) ds ≡ flat_map (one_found e reported) (filter (is_shown shown) ds) →
-        (if on then one_found e reported d else []) ++ flat_map (found_if_on e reported shown) ds
-        ≡ flat_map (one_found e reported) (cond on (d ∷ filter (is_shown shown) ds) (filter (is_shown shown) ds))
-    by true rest = ap (λ ts. one_found e reported d ++ ts) rest
-    by false rest = rest
+    by : (one : Option DiagnosticVal) → flat_map (found_if_on e reported shown) ds ≡ flat_map (one_found e reported) (shown_in shown ds) →
+        option_map_or (one_found e reported) one [] ++ flat_map (found_if_on e reported shown) ds
+        ≡ flat_map (one_found e reported) (cons_option one (shown_in shown ds))
+    by (Some one) rest = ap (λ ts. one_found e reported one ++ ts) rest
+    by None rest = rest
 
 -- what is published of a document, as it is written
 abbrev pub found_tokens : Editor → Bool → List ℕ → Option ReasonVal → List DiagnosticVal → List Token

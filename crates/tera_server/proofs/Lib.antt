@@ -1,3 +1,4 @@
+pub mod ActionLemmas
 pub mod AnswerLemmas
 pub mod ArrayLemmas
 pub mod CompletionLemmas
@@ -8,6 +9,7 @@ pub mod ForestLemmas
 pub mod HandleLemmas
 pub mod KnownLemmas
 pub mod LayoutLemmas
+pub mod LevelLemmas
 pub mod NameLemmas
 pub mod NearestLemmas
 pub mod NeedLemmas

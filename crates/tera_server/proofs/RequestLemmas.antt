@@ -1,5 +1,5 @@
 -- What requests are given, by what they ask and when.
-use Rattle.std.proofs.Common.{◌≡◌, ◌∙◌, ◌++◌, ◌∷◌, [], ℕ, List, Option, Result, Ok, Err, Vec, IfOk, IfErr, MatchResult, inl, refl, sym, ap, subst, append_assoc}
+use Rattle.std.proofs.Common.{◌≡◌, ◌∙◌, ◌++◌, ◌∷◌, [], ℕ, List, Option, Result, Ok, Err, Vec, IfOk, IfErr, MatchResult, None, Some, ◌⊎◌, inl, inr, refl, sym, ap, subst, append_assoc}
 use Rattle.std.specs.declared.alloc.Global.{Global}
 use Rattle.json.specs.Json.{Json}
 use Rattle.json.specs.Print.{print}
@@ -11,15 +11,18 @@ use Rattle.json_rpc.specs.Writing.{body, answer, answer_begin, refusal}
 use Rattle.tera_server.specs.Abilities.{abilities_json}
 use Rattle.tera_server.specs.Clients.{client_in}
 use Rattle.tera_workspace.specs.Workspaces.{IsKept}
+use Rattle.tera_workspace.specs.declared.workspace.Workspace.{Workspace}
+use Rattle.text_edits.specs.Documents.{text_of}
+use Rattle.text_edits.specs.Stored.{AreSame}
 use Rattle.json_rpc.specs.declared.code.Code.{Code}
 use Rattle.json_rpc.specs.declared.code.Code.TheVariants.{InternalError}
 use Rattle.tera_server.specs.Editors.{state_of}
 use Rattle.tera_server.specs.Notes.{Texts}
-use Rattle.tera_server.specs.Requests.{IsBegun, HasRead, Gives, Remains, IsAnsweredBy}
+use Rattle.tera_server.specs.Requests.{IsBegun, HasRead, Gives, Remains, RefusesDocument, RefusesPlace, RefusesState, IsAnsweredBy}
 use Rattle.tera_server.specs.Steps.{answer_by, Answers, Follows}
 use Rattle.tera_server.specs.declared.editor.DocumentState.TheVariants.{Open}
 use Rattle.tera_server.specs.declared.requests.Asked.{Asked}
-use Rattle.tera_server.specs.declared.requests.Asked.TheVariants.{Initialize, Shutdown, OfText, AtPlace, Other}
+use Rattle.tera_server.specs.declared.requests.Asked.TheVariants.{Initialize, Shutdown, OfText, AtPlace, Actions, Other}
 use Rattle.tera_server.specs.declared.server.Phase.{Phase}
 use Rattle.tera_server.specs.declared.server.Phase.TheVariants.{New, Running, ShutDown}
 use Rattle.tera_server.specs.declared.server.Server.{Server}
@@ -61,6 +64,22 @@ pub answers : (id : IdVal) (asked meant : Asked) (params : Option Json) (s t : S
     Answers id meant s params old t now
 answers id asked meant params s t r old now is answered sent = (r, subst (λ a. IsAnsweredBy s id a params r t) is answered, sent_by_result id r old now sent)
 
+-- ---- a document is refused for the same reasons after documents were read
+
+refused : (uri : Option (List ℕ)) (s : Server) (w : Workspace) (code : Code) → AreSame s.workspace.documents w.documents → RefusesDocument uri (record s { workspace = w }) code → RefusesDocument uri s code
+refused None s w code same h = h
+refused (Some uri) s w code same (name, is, why) = (name, is, subst (λ d. RefusesState (state_of s.editor name) (text_of d) code) (same name) why)
+
+refused_place : {A : Type 0} (place : Option A) (uri : Option (List ℕ)) (s : Server) (w : Workspace) (code : Code) → AreSame s.workspace.documents w.documents
+    → RefusesPlace place uri (record s { workspace = w }) code → RefusesPlace place uri s code
+refused_place None uri s w code same h = h
+refused_place (Some place) uri s w code same h = refused uri s w code same h
+
+pub due_before : {A : Type 0} (place : Option A) (uri : Option (List ℕ)) (s : Server) (w : Workspace) (code : Code) → AreSame s.workspace.documents w.documents
+    → (code ≡ InternalError) ⊎ RefusesPlace place uri (record s { workspace = w }) code → (code ≡ InternalError) ⊎ RefusesPlace place uri s code
+due_before place uri s w code same (inl failed) = inl failed
+due_before place uri s w code same (inr h) = inr (refused_place place uri s w code same h)
+
 -- ---- what is so of each workspace stays so, and the texts that are open stay those of the editor
 
 abbrev pub Keeps : Server → Server → Type 0
@@ -95,11 +114,13 @@ given_keeps New Initialize params s t j is h = begun_keeps params s t is h.1
 given_keeps New Shutdown params s t j is h = absurd h
 given_keeps New (OfText request) params s t j is h = absurd h
 given_keeps New (AtPlace request) params s t j is h = absurd h
+given_keeps New Actions params s t j is h = absurd h
 given_keeps New Other params s t j is h = absurd h
 given_keeps Running Initialize params s t j is h = absurd h
 given_keeps Running Shutdown params s t j is h = ended_keeps s t h.1
 given_keeps Running (OfText request) params s t j is h = same_keeps s t h.3
 given_keeps Running (AtPlace request) params s t j is h = read_keeps s t h.stays
+given_keeps Running Actions params s t j is h = read_keeps s t h.stays
 given_keeps Running Other params s t j is h = absurd h
 given_keeps ShutDown asked params s t j is h = absurd h
 
@@ -109,6 +130,7 @@ remains_keeps Running Initialize s t h = same_keeps s t h
 remains_keeps Running Shutdown s t h = same_keeps s t h
 remains_keeps Running (OfText request) s t h = same_keeps s t h
 remains_keeps Running (AtPlace request) s t h = read_keeps s t h
+remains_keeps Running Actions s t h = read_keeps s t h
 remains_keeps Running Other s t h = same_keeps s t h
 remains_keeps ShutDown asked s t h = same_keeps s t h
 

@@ -13,10 +13,14 @@ sync_json = object (member (codes "openClose") (boolean true) (member (codes "ch
 abbrev pub triggers : Items
 triggers =
     item (string (codes "<")) (item (string (codes "/")) (item (string (codes "."))
-    (item (string (codes " ")) (item (string (codes "\"")) (item (string (codes "'")) no_items)))))
+    (item (string (codes " ")) (item (string (codes "\"")) (item (string (codes "'")) (item (string (codes "|")) no_items))))))
 
 abbrev pub completion_json : Json
 completion_json = object (member (codes "triggerCharacters") (array triggers) no_members)
+
+-- what kinds of actions are offered
+abbrev pub actions_json : Json
+actions_json = object (member (codes "codeActionKinds") (array (item (string (codes "quickfix")) no_items)) no_members)
 
 -- tokens are reported for a whole text
 abbrev pub semantic_json : Json
@@ -38,9 +42,10 @@ capabilities_json e =
     (member (codes "definitionProvider") (boolean true)
     (member (codes "hoverProvider") (boolean true)
     (member (codes "referencesProvider") (boolean true)
+    (member (codes "codeActionProvider") actions_json
     (member (codes "completionProvider") completion_json
     (member (codes "semanticTokensProvider") semantic_json
-    (member (codes "workspace") workspace_json no_members))))))))))
+    (member (codes "workspace") workspace_json no_members)))))))))))
 
 -- the version of the program and of its server
 abbrev pub version : List ℕ

@@ -8,12 +8,13 @@ use Rattle.json.specs.Tree.{json_tokens}
 use Rattle.json.specs.Value.{items_of}
 use Rattle.protocol_values.specs.Writing.{edit_json, number_json}
 use Rattle.tera_lexer.specs.grammar.Words.{statement_words}
+use Rattle.tera_outline.specs.Bound.{bound_of}
 use Rattle.tera_outline.specs.Completions.{completion_at, slot_of}
 use Rattle.tera_outline.specs.Names.{Named, names_of, holds}
 use Rattle.tera_outline.specs.Pieces.{Part, ArePartsOf}
 use Rattle.tera_outline.specs.declared.completions.Completion.{Completion}
 use Rattle.tera_outline.specs.declared.completions.CompletionKind.{CompletionKind}
-use Rattle.tera_outline.specs.declared.completions.CompletionKind.TheVariants.{Statement, Component, Template, Argument}
+use Rattle.tera_outline.specs.declared.completions.CompletionKind.TheVariants.{Statement, Component, Template, Argument, Filter, Test, Operand}
 use Rattle.tera_outline.specs.declared.names.NameKind.{NameKind}
 use Rattle.tera_outline.specs.declared.names.NameKind.TheVariants.{Defined}
 use Rattle.tera_tree.specs.Calls.{once_each}
@@ -24,6 +25,7 @@ use Rattle.text_edits.specs.Positions.{byte_of}
 use Rattle.text_edits.specs.declared.positions.Encoding.{Encoding}
 use Rattle.text_edits.specs.declared.positions.Position.{Position}
 use Rattle.tera_server.specs.Positions.{position_at}
+use Rattle.tera_server.specs.Settings.{RegisteredVal}
 use Rattle.tera_server.specs.Templates.{template_name}
 
 -- those of names in a text that stand for what is defined there
@@ -34,18 +36,29 @@ is_defined kind = false
 abbrev pub defined_names : List Named → List (List ℕ)
 defined_names named = map (λ n. n.text) (filter (λ n. is_defined n.kind) named)
 
--- what may be typed of a kind, beside these names that are in the text
-abbrev pub offered : Workspace → List (List ℕ) → List Named → CompletionKind → List (List ℕ)
-offered w folders named Statement = statement_words
-offered w folders named Component = components_of w ++ defined_names named
-offered w folders named Template = filter_map (template_name folders) (files_of w)
-offered w folders named (Argument call) = option_map_or (λ n. parameters_of_name w n.text) (find (holds call) named) []
+-- what a loop has
+abbrev pub loop_names : List (List ℕ)
+loop_names = codes "loop.first" ∷ codes "loop.index" ∷ codes "loop.index0" ∷ codes "loop.last" ∷ codes "loop.length" ∷ []
 
--- the numbers that the protocol has for a keyword, a class, a file and a field
+-- what may be typed of a kind, by the documents, the folders that are open and the names that the program registers,
+-- beside these names and variables of the text
+abbrev pub offered : Workspace → List (List ℕ) → RegisteredVal → List Named → List (List ℕ) → CompletionKind → List (List ℕ)
+offered w folders r named bound Statement = statement_words
+offered w folders r named bound Component = components_of w ++ defined_names named
+offered w folders r named bound Template = filter_map (template_name folders) (files_of w)
+offered w folders r named bound Filter = r.filters
+offered w folders r named bound Test = r.tests
+offered w folders r named bound Operand = (loop_names ++ bound) ++ r.functions
+offered w folders r named bound (Argument call) = option_map_or (λ n. parameters_of_name w n.text) (find (holds call) named) []
+
+-- the numbers that the protocol has for a keyword, a class, a file, a function, a variable and a field
 abbrev pub kind_number : CompletionKind → ℕ
 kind_number Statement = 14
 kind_number Component = 7
 kind_number Template = 17
+kind_number Filter = 3
+kind_number Test = 3
+kind_number Operand = 6
 kind_number (Argument call) = 5
 
 -- what a name that may be typed is reported as: it goes between two positions
@@ -63,16 +76,16 @@ abbrev pub items_json : Position → Position → ℕ → List (List ℕ) → Js
 items_json start end kind names = array (items_of (map (item_json start end kind) (once_each names)))
 
 -- at a byte of a text with these parts: what is typed there is replaced; `null` where nothing is to be typed
-abbrev pub completion_json : Encoding → Workspace → List (List ℕ) → List ℕ → List Named → ℕ → Option Completion → Json
-completion_json e w folders text named byte None = null
-completion_json e w folders text named byte (Some c) =
-    items_json (position_at e text c.start) (position_at e text byte) (kind_number c.kind) (offered w folders named c.kind)
+abbrev pub completion_json : Encoding → Workspace → List (List ℕ) → RegisteredVal → List ℕ → List Named → List (List ℕ) → ℕ → Option Completion → Json
+completion_json e w folders r text named bound byte None = null
+completion_json e w folders r text named bound byte (Some c) =
+    items_json (position_at e text c.start) (position_at e text byte) (kind_number c.kind) (offered w folders r named bound c.kind)
 
-abbrev pub completion_of : Encoding → Workspace → List (List ℕ) → List ℕ → List Part → ℕ → Json
-completion_of e w folders text parts byte =
-    completion_json e w folders text (names_of parts) byte (option_map (completion_at byte) (slot_of (length text) byte parts))
+abbrev pub completion_of : Encoding → Workspace → List (List ℕ) → RegisteredVal → List ℕ → List Part → ℕ → Json
+completion_of e w folders r text parts byte =
+    completion_json e w folders r text (names_of parts) (bound_of parts) byte (option_map (completion_at byte) (slot_of (length text) byte parts))
 
 -- at a position of a text
-abbrev pub IsCompletion : Encoding → Workspace → List (List ℕ) → List ℕ → Position → Json → Type 0
-IsCompletion e w folders text p j =
-    (parts : List Part) × ArePartsOf text parts × (j ≡ completion_of e w folders text parts (byte_of e (lines_of text) p))
+abbrev pub IsCompletion : Encoding → Workspace → List (List ℕ) → RegisteredVal → List ℕ → Position → Json → Type 0
+IsCompletion e w folders r text p j =
+    (parts : List Part) × ArePartsOf text parts × (j ≡ completion_of e w folders r text parts (byte_of e (lines_of text) p))

@@ -6,7 +6,7 @@ use Rattle.tera_workspace.specs.Definitions.{texts_read}
 use Rattle.tera_workspace.specs.Workspaces.{reported_of_name}
 use Rattle.tera_workspace.specs.declared.workspace.Workspace.{Workspace}
 use Rattle.tera_server.specs.Sending.{unpublished_of}
-use Rattle.tera_server.specs.Settings.{SettingsVal, file_in, off_of, settings_in, settings_view}
+use Rattle.tera_server.specs.Settings.{SettingsVal, file_in, rules_of, settings_in, settings_view}
 use Rattle.tera_server.specs.States.{Grows, edited_of, needed_of, needs}
 use Rattle.tera_server.specs.Templates.{is_inside}
 use Rattle.tera_server.specs.UnreadFiles.{ReasonVal, reason_view, why_of}
@@ -41,11 +41,11 @@ pub record IsUnconfigured (s t : Server) : Type 0 where
   pub edited : Grows (edited_of s) (edited_of t)
   pub unpublished : Grows (unpublished_of s) (unpublished_of t)
 
--- what was reported in a folder is to be published, unless the same rules are off as before
+-- what was reported in a folder is to be published, unless rules are set as before
 abbrev pub ArePublishedAgain : List ℕ → FoundSettings → Server → Server → Type 0
 ArePublishedAgain folder found s t =
     let old = settings_in s.settings folder in
-    ((off_of (settings_by found old) ≡ off_of old) × (unpublished_of t ≡ unpublished_of s))
+    ((rules_of (settings_by found old) ≡ rules_of old) × (unpublished_of t ≡ unpublished_of s))
     ⊎ (unpublished_of t ≡ unpublished_of s ++ filter (is_reported_inside s.workspace folder) (map (λ d. d.name) (texts_read s.workspace)))
 
 -- They are the settings of the folder, and those of other folders are what they were; and what is wrong in their file is

@@ -1,6 +1,6 @@
 -- What is found in a document, as it is published.
 use Rattle.std.specs.Prelude.{ℕ, List, [], ◌++◌, Bool, if◌then◌else◌, codes, is_some, map, Option, None, Some, unwrap_or}
-use Rattle.std.specs.Option.{option_map, option_to_list}
+use Rattle.std.specs.Option.{option_map, option_map_or, option_to_list}
 use Rattle.json.specs.Json.{Json, string, array, object, Members, no_members, member}
 use Rattle.json.specs.Token.{Token}
 use Rattle.json.specs.Tree.{json_tokens}
@@ -13,7 +13,7 @@ use Rattle.tera_check.specs.declared.finding.Severity.TheVariants.{Error, Warnin
 use Rattle.tera_workspace.specs.Diagnostics.{DiagnosticVal, RelatedVal}
 use Rattle.text_edits.specs.declared.positions.Position.{Position}
 use Rattle.tera_server.specs.Editors.{seen_of, uri_in, version_in}
-use Rattle.tera_server.specs.Settings.{Shown, is_shown}
+use Rattle.tera_server.specs.Settings.{Shown, shown_as}
 use Rattle.tera_server.specs.UnreadFiles.{ReasonVal}
 use Rattle.tera_server.specs.declared.editor.Editor.{Editor}
 
@@ -84,7 +84,7 @@ reason_tokens (Some r) = json_tokens (reason_json r)
 
 -- a finding, as it is written unless its rule is off
 abbrev pub found_if_on : Editor → Bool → Shown → DiagnosticVal → List Token
-found_if_on e reported shown d = if is_shown shown d then one_found e reported d else []
+found_if_on e reported shown d = option_map_or (one_found e reported) (shown_as shown d) []
 
 -- all that is published of a file: first why it cannot be read, if it cannot
 abbrev pub diagnostics_json : Editor → Bool → Option ReasonVal → List DiagnosticVal → List Json

@@ -1,4 +1,5 @@
 pub mod Abilities
+pub mod Actions
 pub mod Clients
 pub mod Completions
 pub mod Configuring

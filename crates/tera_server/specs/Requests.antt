@@ -11,7 +11,7 @@ use Rattle.json_rpc.specs.Writing.{body, answer}
 use Rattle.json_rpc.specs.declared.code.Code.{Code}
 use Rattle.json_rpc.specs.declared.code.Code.TheVariants as codes_of
 use Rattle.protocol_values.specs.Members.{items_in, member_of, text_in}
-use Rattle.protocol_values.specs.Reading.{position_in}
+use Rattle.protocol_values.specs.Reading.{position_in, range_in}
 use Rattle.tera_outline.specs.Names.{Named}
 use Rattle.tera_workspace.specs.Definitions.{texts_read, AreRead}
 use Rattle.tera_workspace.specs.Workspaces.{reported_of_name, IsKept}
@@ -20,6 +20,7 @@ use Rattle.text_edits.specs.Stored.{document_of, AreSame}
 use Rattle.text_edits.specs.declared.positions.Encoding.{Encoding}
 use Rattle.text_edits.specs.declared.positions.Position.{Position}
 use Rattle.tera_server.specs.Abilities.{abilities_json}
+use Rattle.tera_server.specs.Actions.{ActingVal, AreActions}
 use Rattle.tera_server.specs.Clients.{client_in}
 use Rattle.tera_server.specs.Completions.{IsCompletion}
 use Rattle.tera_server.specs.Definitions.{IsNamedAt, place_of, place_json}
@@ -30,6 +31,7 @@ use Rattle.tera_server.specs.Notes.{document_in, uri_given, item_uri, AreNames}
 use Rattle.tera_server.specs.Outlines.{IsOutline}
 use Rattle.tera_server.specs.References.{declares, IsList}
 use Rattle.tera_server.specs.SemanticTokens.{AreTokens}
+use Rattle.tera_server.specs.Settings.{registered_for}
 use Rattle.tera_server.specs.declared.editor.DocumentState.{DocumentState}
 use Rattle.tera_server.specs.declared.editor.DocumentState.TheVariants.{Open, Lost, Closed}
 use Rattle.tera_server.specs.declared.requests.Asked.{Asked}
@@ -55,7 +57,8 @@ asked_of m =
     else (if bytes_eq m (codes "textDocument/hover") then asks.AtPlace (at_place.OfName of_name.Hover)
     else (if bytes_eq m (codes "textDocument/references") then asks.AtPlace (at_place.OfName of_name.References)
     else (if bytes_eq m (codes "textDocument/completion") then asks.AtPlace at_place.Completion
-    else (if bytes_eq m (codes "textDocument/semanticTokens/full") then asks.OfText of_text.SemanticTokens else asks.Other))))))))
+    else (if bytes_eq m (codes "textDocument/semanticTokens/full") then asks.OfText of_text.SemanticTokens
+    else (if bytes_eq m (codes "textDocument/codeAction") then asks.Actions else asks.Other)))))))))
 
 abbrev pub folders_by : Option Json → List Json → List (Option (List ℕ))
 folders_by params [] = text_in (member_of (codes "rootUri") params) ∷ []
@@ -77,15 +80,24 @@ pub record IsBegun (params : Option Json) (s t : Server) : Type 0 where
   pub reported : (n : List ℕ) → reported_of_name t.workspace n ≡ []
   pub kept : IsKept t.workspace
 
--- this is the text of the document, which the editor has open
-abbrev pub IsMeant : Option (List ℕ) → Server → List ℕ → Type 0
-IsMeant None s text = ⊥
-IsMeant (Some uri) s text =
-    (name : List ℕ) × IsNameOf uri name × (state_of s.editor name ≡ Open) × (text_of (document_of s.workspace.documents name) ≡ Some text)
+-- this is the text of the document of a name, which the editor has open
+abbrev pub IsOpenAs : List ℕ → Server → List ℕ → Type 0
+IsOpenAs name s text = (state_of s.editor name ≡ Open) × (text_of (document_of s.workspace.documents name) ≡ Some text)
 
--- the position that parameters say
+-- .. of the document of a URI, which has this name
+abbrev pub IsMeantAs : Option (List ℕ) → Server → List ℕ → List ℕ → Type 0
+IsMeantAs None s name text = ⊥
+IsMeantAs (Some uri) s name text = IsNameOf uri name × IsOpenAs name s text
+
+abbrev pub IsMeant : Option (List ℕ) → Server → List ℕ → Type 0
+IsMeant uri s text = (name : List ℕ) × IsMeantAs uri s name text
+
+-- the position that parameters say, and the range
 abbrev pub place_in : Option Json → Option Position
 place_in params = position_in (member_of (codes "position") params)
+
+abbrev pub range_given : Option Json → Option (Position × Position)
+range_given params = range_in (member_of (codes "range") params)
 
 -- this is what is named there in the text of the document, if anything is
 abbrev pub IsNamed : Option Position → Option (List ℕ) → Server → Option Named → Type 0
@@ -130,7 +142,23 @@ IsResultOfName of_name.References params named t j = AreListed (declares params)
 abbrev pub IsOffered : Option Position → Option (List ℕ) → Server → Json → Type 0
 IsOffered None uri s j = ⊥
 IsOffered (Some position) uri s j =
-    (text : List ℕ) × IsMeant uri s text × IsCompletion s.client.encoding s.workspace (map string_bytes s.folders.items) text position j
+    (name : List ℕ) × (text : List ℕ) × IsMeantAs uri s name text
+    × IsCompletion s.client.encoding s.workspace (map string_bytes s.folders.items) (registered_for s.settings (map string_bytes s.folders.items) name) text position j
+
+-- these actions are offered for the range of the document
+abbrev pub acting_of : Server → ActingVal
+acting_of s = record {
+  workspace = s.workspace;
+  editor = s.editor;
+  settings = s.settings;
+  folders = map string_bytes s.folders.items;
+  encoding = s.client.encoding;
+}
+
+abbrev pub AreOfRange : Option (Position × Position) → Option (List ℕ) → Server → Json → Type 0
+AreOfRange None uri s j = ⊥
+AreOfRange (Some range) uri s j =
+    (name : List ℕ) × (text : List ℕ) × IsMeantAs uri s name text × AreActions (acting_of s) (record { name = name; text = text }) range j
 
 -- the result of a request of a position: of what is named there, or what may be typed there
 abbrev pub IsResultAt : PlaceRequest → Option Json → Server → Json → Type 0
@@ -145,6 +173,7 @@ Gives Running asks.Shutdown s params j t = (j ≡ null) × (t ≡ record s { pha
 Gives Running (asks.OfText request) s params j t =
     (text : List ℕ) × IsMeant (uri_given (document_in params)) s text × IsResultOfText request s.client.encoding text j × (t ≡ s)
 Gives Running (asks.AtPlace request) s params j t = IsOfCurrentTexts (IsResultAt request params) s j t
+Gives Running asks.Actions s params j t = IsOfCurrentTexts (AreOfRange (range_given params) (uri_given (document_in params))) s j t
 Gives _ _ s params j t = ⊥
 
 -- why a document is refused: the editor has it not open, or with a text that is not known
@@ -153,15 +182,17 @@ RefusesState Open text code = (text ≡ None) × (code ≡ codes_of.InvalidParam
 RefusesState Lost text code = code ≡ codes_of.RequestFailed
 RefusesState Closed text code = code ≡ codes_of.InvalidParams
 
+abbrev pub IsNotOpen : List ℕ → Server → Code → Type 0
+IsNotOpen name s code = RefusesState (state_of s.editor name) (text_of (document_of s.workspace.documents name)) code
+
 abbrev pub RefusesDocument : Option (List ℕ) → Server → Code → Type 0
 RefusesDocument None s code = code ≡ codes_of.InvalidParams
-RefusesDocument (Some uri) s code =
-    (name : List ℕ) × IsNameOf uri name × RefusesState (state_of s.editor name) (text_of (document_of s.workspace.documents name)) code
+RefusesDocument (Some uri) s code = (name : List ℕ) × IsNameOf uri name × IsNotOpen name s code
 
--- .. or no position is reported
-abbrev pub RefusesPlace : Option Position → Option (List ℕ) → Server → Code → Type 0
+-- .. or no position, or range, is reported
+abbrev pub RefusesPlace : {A : Type 0} → Option A → Option (List ℕ) → Server → Code → Type 0
 RefusesPlace None uri s code = code ≡ codes_of.InvalidParams
-RefusesPlace (Some position) uri s code = RefusesDocument uri s code
+RefusesPlace (Some place) uri s code = RefusesDocument uri s code
 
 -- why a request has no result
 abbrev pub IsDue : Phase → Asked → Server → Option Json → Code → Type 0
@@ -171,13 +202,15 @@ IsDue Running asks.Initialize s params code = code ≡ codes_of.InvalidRequest
 IsDue Running asks.Shutdown s params code = ⊥
 IsDue Running (asks.OfText request) s params code = RefusesDocument (uri_given (document_in params)) s code
 IsDue Running (asks.AtPlace request) s params code = RefusesPlace (place_in params) (uri_given (document_in params)) s code
+IsDue Running asks.Actions s params code = RefusesPlace (range_given params) (uri_given (document_in params)) s code
 IsDue Running asks.Other s params code = code ≡ codes_of.MethodNotFound
 IsDue ShutDown _ s params code = code ≡ codes_of.InvalidRequest
 
--- what one that has no result leaves as it is: everything; but where it asks what is at a place documents may have been
--- read
+-- what one that has no result leaves as it is: everything; but where it asks what is at a place, or for actions, documents
+-- may have been read
 abbrev pub Remains : Phase → Asked → Server → Server → Type 0
 Remains Running (asks.AtPlace request) s t = HasRead s t
+Remains Running asks.Actions s t = HasRead s t
 Remains _ _ s t = t ≡ s
 
 -- what `Gives` says while the exchange runs, but that `shutdown` has not ended it yet

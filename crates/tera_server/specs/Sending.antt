@@ -9,7 +9,7 @@ use Rattle.tera_workspace.specs.Workspaces.{reported_of_name}
 use Rattle.tera_workspace.specs.declared.workspace.Workspace.{Workspace}
 use Rattle.tera_server.specs.Editors.{state_of}
 use Rattle.tera_server.specs.Findings.{published}
-use Rattle.tera_server.specs.Settings.{is_shown, reported_for}
+use Rattle.tera_server.specs.Settings.{reported_for, shown_in}
 use Rattle.tera_server.specs.declared.editor.Editor.{Editor}
 use Rattle.tera_server.specs.declared.editor.DocumentState.{DocumentState}
 use Rattle.tera_server.specs.declared.editor.DocumentState.TheVariants.{Open, Lost, Closed}
@@ -50,9 +50,9 @@ publisher_of s = record {
   folders = map string_bytes s.folders.items;
 }
 
--- of what was reported for the document of a name last, what is on by the settings
+-- of what was reported for the document of a name last, what is on by the settings, as grave as its rules count for
 abbrev pub shown_of : Publisher → Workspace → List ℕ → List DiagnosticVal
-shown_of p w n = filter (is_shown (reported_for p.settings p.folders n)) (reported_of_name w n)
+shown_of p w n = shown_in (reported_for p.settings p.folders n) (reported_of_name w n)
 
 -- what is published of the document of a name: why its file cannot be read, or is wrong, and that
 unfoldable pub found_message : Publisher → Workspace → List ℕ → List ℕ

@@ -1,33 +1,59 @@
 -- What settings say of the templates below folders.
-use Rattle.std.specs.Prelude.{◌≡◌, ◌||◌, ℕ, List, [], Bool, false, not, cond, if◌then◌else◌, map, String, string_bytes, is_some, Option, None, Some}
+use Rattle.std.specs.Prelude.{◌≡◌, ◌||◌, ℕ, List, [], Bool, false, not, cond, if◌then◌else◌, map, String, string_bytes, is_some, Option, None, Some, Vec}
 use Rattle.std.specs.BTreeMap.{get_by_text}
-use Rattle.std.specs.List.{find, list_any}
-use Rattle.std.specs.Option.{option_and_then, option_map}
+use Rattle.std.specs.List.{filter_map, find, list_any}
+use Rattle.std.specs.Option.{option_and_then, option_map, option_map_or}
 use Rattle.std.specs.Str.{bytes_eq}
 use Rattle.std.specs.declared.alloc.Global.{Global}
-use Rattle.tera_check.specs.Findings.{kind_name}
+use Rattle.tera_check.specs.Findings.{default_level, kind_name, severity_of}
 use Rattle.tera_check.specs.Levels.{is_fault}
 use Rattle.tera_check.specs.declared.finding.Kind.{Kind}
+use Rattle.tera_check.specs.declared.finding.Severity.{Severity}
+use Rattle.tera_check.specs.declared.levels.RuleLevel.{RuleLevel}
 use Rattle.tera_workspace.specs.Diagnostics.{DiagnosticVal}
 use Rattle.tera_server.specs.Templates.{is_inside}
 use Rattle.tera_server.specs.declared.settings.FolderSettings.{FolderSettings}
+use Rattle.tera_server.specs.declared.settings.RegisteredNames.{RegisteredNames}
 use Rattle.tera_server.specs.declared.settings.Reported.{Reported}
 use Rattle.tera_server.specs.declared.settings.Reported.TheVariants as reported_as
+use Rattle.tera_server.specs.declared.settings.RuleSetting.{RuleSetting}
 use Rattle.tera_server.specs.declared.settings.Settings.{Settings}
 
--- the ends of the names of templates, if they are not as usual; what is left out; libraries; and the rules that are off
+-- the name of a rule, and what it is set to: a severity, or none where it is off
+abbrev pub RuleVal : Type 0
+RuleVal = List ℕ × Option Severity
+
+abbrev pub rule_view : RuleSetting → RuleVal
+rule_view r = (string_bytes r.rule, r.level)
+
+-- .. as `tera check` has it
+abbrev pub level_view : RuleLevel → RuleVal
+level_view r = (r.rule.now, r.level)
+
+-- the ends of the names of templates, if they are not as usual; what is left out; libraries; what rules are set to; and
+-- the names of filters, tests and functions that the program registers, as far as they are known
 pub record SettingsVal : Type 0 where
   pub extensions : Option (List (List ℕ))
   pub exclude : List (List ℕ)
   pub libraries : List (List ℕ)
-  pub off : List (List ℕ)
+  pub rules : List RuleVal
+  pub filters : List (List ℕ)
+  pub tests : List (List ℕ)
+  pub functions : List (List ℕ)
+
+abbrev pub names_in : Option (Vec (String Global) Global) → List (List ℕ)
+names_in None = []
+names_in (Some v) = map string_bytes v.items
 
 abbrev pub settings_view : FolderSettings → SettingsVal
 settings_view s = record {
   extensions = option_map (λ v. map string_bytes v.items) s.extensions;
   exclude = map string_bytes s.exclude.items;
   libraries = map string_bytes s.libraries.items;
-  off = map string_bytes s.off.items;
+  rules = map rule_view s.rules.items;
+  filters = names_in s.filters;
+  tests = names_in s.tests;
+  functions = names_in s.functions;
 }
 
 -- of a folder, and the file that they are from
@@ -55,10 +81,26 @@ folder_of folders path = find (λ f. holds f path) folders
 abbrev pub settings_for : Settings → List (List ℕ) → List ℕ → Option SettingsVal
 settings_for s folders path = option_and_then (settings_in s) (folder_of folders path)
 
--- the rules that are off by settings, if there are any
-abbrev pub off_of : Option SettingsVal → List (List ℕ)
-off_of None = []
-off_of (Some settings) = settings.off
+-- the names that the program registers, by the settings that count for a file
+pub record RegisteredVal : Type 0 where
+  pub filters : List (List ℕ)
+  pub tests : List (List ℕ)
+  pub functions : List (List ℕ)
+
+abbrev pub registered_view : RegisteredNames → RegisteredVal
+registered_view r = record { filters = map string_bytes r.filters.now; tests = map string_bytes r.tests.now; functions = map string_bytes r.functions.now }
+
+abbrev pub registered_by : Option SettingsVal → RegisteredVal
+registered_by None = record { filters = []; tests = []; functions = [] }
+registered_by (Some settings) = record { filters = settings.filters; tests = settings.tests; functions = settings.functions }
+
+abbrev pub registered_for : Settings → List (List ℕ) → List ℕ → RegisteredVal
+registered_for s folders file = registered_by (settings_for s folders file)
+
+-- what rules are set to by settings, if there are any
+abbrev pub rules_of : Option SettingsVal → List RuleVal
+rules_of None = []
+rules_of (Some settings) = settings.rules
 
 -- a file is one of a library of some folder
 abbrev pub has_library : List ℕ → String Global × FolderSettings → Bool
@@ -67,29 +109,40 @@ has_library file (folder, s) = is_some (folder_of (map string_bytes s.libraries.
 abbrev pub is_in_library : Settings → List ℕ → Bool
 is_in_library s file = list_any (has_library file) s.of_folders.entries
 
--- what is reported of a file beside its faults: all but the rules that are off, or nothing
+-- what is reported of a file beside its faults: what counts for anything where rules are set so, or nothing
 abbrev pub Shown : Type 0
-Shown = Option (List (List ℕ))
+Shown = Option (List RuleVal)
 
 abbrev pub reported_view : Reported → Shown
-reported_view (reported_as.AllBut off) = Some (map string_bytes off.now)
+reported_view (reported_as.By rules) = Some (map rule_view rules.now)
 reported_view reported_as.Nothing = None
 
 -- in a folder by its settings; and of another one in a library no more than faults
 abbrev pub reported_by : Settings → List ℕ → Option (List ℕ) → Shown
-reported_by s file (Some folder) = Some (off_of (settings_in s folder))
+reported_by s file (Some folder) = Some (rules_of (settings_in s folder))
 reported_by s file None = if is_in_library s file then None else Some []
 
 abbrev pub reported_for : Settings → List (List ℕ) → List ℕ → Shown
 reported_for s folders file = reported_by s file (folder_of folders file)
 
-abbrev pub has_rule : Shown → List ℕ → Bool
-has_rule None rule = false
-has_rule (Some off) rule = not (list_any (λ r. bytes_eq r rule) off)
+-- what a kind counts for where rules are set so: none where it is off; what it counts for by itself, where nothing is set
+abbrev pub level_in : List RuleVal → Kind → Option Severity
+level_in rules kind = option_map_or (λ r. r.1) (find (λ r. bytes_eq r.0 (kind_name kind)) rules) (default_level kind)
 
--- faults are always reported
+abbrev pub set_level : Shown → Kind → Option Severity
+set_level None kind = None
+set_level (Some rules) kind = level_in rules kind
+
+-- faults are errors, whatever is set, and always reported
+abbrev pub level_by : Shown → Kind → Option Severity
+level_by shown kind = if is_fault kind then Some (severity_of kind) else set_level shown kind
+
 abbrev pub is_on : Shown → Kind → Bool
-is_on shown kind = is_fault kind || has_rule shown (kind_name kind)
+is_on shown kind = is_some (level_by shown kind)
 
-abbrev pub is_shown : Shown → DiagnosticVal → Bool
-is_shown shown d = is_on shown d.kind
+-- a finding as it is reported: as grave as its kind counts for; none where it is off
+abbrev pub shown_as : Shown → DiagnosticVal → Option DiagnosticVal
+shown_as shown d = option_map (λ severity. record d { severity = severity }) (level_by shown d.kind)
+
+abbrev pub shown_in : Shown → List DiagnosticVal → List DiagnosticVal
+shown_in shown ds = filter_map (shown_as shown) ds

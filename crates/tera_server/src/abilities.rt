@@ -35,7 +35,7 @@ pub(crate) fn put_abilities(out: &mut Writer, encoding: Encoding) -> Result<(), 
     put_tokens(out, &AFTER_THE_CHANGES)
 }
 
-const AFTER_THE_CHANGES: [Token<'static>; 68] = [
+const AFTER_THE_CHANGES: [Token<'static>; 76] = [
     Token::EndObject,
     Token::Key("documentFormattingProvider"),
     Token::Bool(true),
@@ -47,6 +47,13 @@ const AFTER_THE_CHANGES: [Token<'static>; 68] = [
     Token::Bool(true),
     Token::Key("referencesProvider"),
     Token::Bool(true),
+    Token::Key("codeActionProvider"),
+    Token::BeginObject,
+    Token::Key("codeActionKinds"),
+    Token::BeginArray,
+    Token::String("quickfix"),
+    Token::EndArray,
+    Token::EndObject,
     // An editor asks by itself after these characters, beside those of words.
     Token::Key("completionProvider"),
     Token::BeginObject,
@@ -58,6 +65,7 @@ const AFTER_THE_CHANGES: [Token<'static>; 68] = [
     Token::String(" "),
     Token::String("\""),
     Token::String("'"),
+    Token::String("|"),
     Token::EndArray,
     Token::EndObject,
     // What the numbers of kinds mean; tokens are reported for a whole text.

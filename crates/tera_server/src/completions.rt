@@ -7,13 +7,16 @@ ghost use Rattle.json.specs.Json.{Json, array};
 ghost use Rattle.json.specs.Tree.{json_tokens};
 ghost use Rattle.json.specs.Value.{items_of};
 ghost use Rattle.json_members.specs.Written.{Puts, PutsJson};
+ghost use Rattle.tera_outline.specs.Bound.{bound_of};
 ghost use Rattle.tera_outline.specs.Names.{names_of, name_view, holds};
 ghost use Rattle.tera_outline.specs.Pieces.{part_of};
 ghost use Rattle.tera_tree.specs.Calls.{texts, once_each};
 ghost use Rattle.tera_workspace.specs.Components.{components_of, parameters_of_name};
-ghost use Rattle.tera_server.specs.Completions.{defined_names, offered, kind_number, item_json, item_tokens, items_json, IsCompletion};
+ghost use Rattle.tera_server.specs.Completions.{defined_names, loop_names, offered, kind_number, item_json, item_tokens, items_json, IsCompletion};
+ghost use Rattle.tera_server.specs.Settings.{registered_view};
 ghost use Rattle.tera_server.specs.Templates.{template_name};
 
+use crate::settings::RegisteredNames;
 use crate::templates::template_name;
 use json::{Token, Writer};
 use json_members::{put_number, put_tokens};
@@ -21,7 +24,9 @@ use protocol_values::put_edit;
 use std::alloc::{AllocError, Global};
 use std::collections::BTreeSet;
 use tera_lexer::words::STATEMENTS;
-use tera_outline::{CompletionKind, Name, NameKind, Piece, completion_for, names_of, pieces_of};
+use tera_outline::{
+    CompletionKind, Name, NameKind, Piece, bound_of, completion_for, names_of, pieces_of,
+};
 use tera_workspace::Workspace;
 use text_edits::{Encoding, Lines, Position, byte_at, position_at};
 
@@ -32,6 +37,25 @@ pub(crate) struct Offering<'w> {
     pub(crate) folders: &'w Vec<String>,
 }
 
+// What is offered is taken from this.
+#[derive(Clone, Copy)]
+struct Given<'w> {
+    offering: Offering<'w>,
+    registered: RegisteredNames<'w>,
+    // The names that are in the text, and the variables that it binds.
+    named: &'w [Name],
+    bound: &'w [&'w str],
+}
+
+// What a loop has.
+const LOOP_NAMES: [&str; 5] = [
+    "loop.first",
+    "loop.index",
+    "loop.index0",
+    "loop.last",
+    "loop.length",
+];
+
 // Which part of the text a name replaces, and what it is.
 #[derive(Clone, Copy)]
 struct Place {
@@ -40,17 +64,18 @@ struct Place {
     kind: CompletionKind,
 }
 
-/// Writes what may be typed at the position, or `null`.
+/// Writes what may be typed at the position, or `null`. The program registers these names for the document.
 pub(crate) fn put_completion(
     alloc: Global,
     out: &mut Writer,
     offering: Offering<'_>,
+    registered: RegisteredNames<'_>,
     encoding: Encoding,
     text: &str,
     position: Position,
 ) -> Result<(), AllocError>
     ensures tokens { OnOk result ((j : Json) × IsCompletion encoding offering.entry.workspace.now
-        (map string_bytes offering.entry.folders.now.items) text.now position j
+        (map string_bytes offering.entry.folders.now.items) (registered_view registered.entry) text.now position j
         × (out.new.tokens ≡ out.old.tokens ++ json_tokens j)) }
     ensures before { out.new.before ≡ out.old.before }
 {
@@ -64,7 +89,7 @@ pub(crate) fn put_completion(
                 end: position_at(text, &lines, encoding, byte),
                 kind: completion.kind,
             };
-            put_offered(alloc, out, offering, place, pieces.as_slice())
+            put_offered(alloc, out, offering, registered, place, pieces.as_slice())
         }
         None => out.null(),
     }
@@ -74,39 +99,94 @@ fn put_offered(
     alloc: Global,
     out: &mut Writer,
     offering: Offering<'_>,
+    registered: RegisteredNames<'_>,
     place: Place,
     pieces: &[Piece<'_>],
 ) -> Result<(), AllocError>
     ensures { PutsJson result out.old out.new
         (items_json place.start place.end (kind_number place.kind)
         (offered offering.entry.workspace.now (map string_bytes offering.entry.folders.now.items)
-        (names_of (map part_of pieces.now)) place.kind)) }
+        (registered_view registered.entry) (names_of (map part_of pieces.now))
+        (bound_of (map part_of pieces.now)) place.kind)) }
 {
     let named = names_of(alloc, pieces)?;
-    let names = offered(alloc, offering, named.as_slice(), place.kind)?;
+    let bound = bound_of(alloc, pieces)?;
+    let given = Given {
+        offering,
+        registered,
+        named: named.as_slice(),
+        bound: bound.as_slice(),
+    };
+    let names = offered(alloc, given, place.kind)?;
     let sorted = once_each(alloc, names.as_slice())?;
     put_items(out, place, &sorted)
 }
 
-// What may be typed of this kind, beside these names that are in the text.
+// What may be typed of this kind.
 fn offered<'w>(
     alloc: Global,
-    offering: Offering<'w>,
-    named: &'w [Name],
+    given: Given<'w>,
     kind: CompletionKind,
 ) -> Result<Vec<&'w str>, AllocError>
-    ensures { IfOk result (λ v. texts v.items ≡ offered offering.entry.workspace.now
-        (map string_bytes offering.entry.folders.now.items) (map name_view named.now) kind) }
+    ensures { IfOk result (λ v. texts v.items ≡ offered given.entry.offering.workspace.now
+        (map string_bytes given.entry.offering.folders.now.items) (registered_view given.entry.registered)
+        (map name_view given.entry.named.now) (texts given.entry.bound.now) kind) }
 {
+    let workspace = given.offering.workspace;
     match kind {
         CompletionKind::Statement => Ok(Vec::from_array(alloc, STATEMENTS)?),
-        CompletionKind::Component => components(alloc, offering.workspace, named),
+        CompletionKind::Component => components(alloc, workspace, given.named),
         CompletionKind::Template => {
-            let files = offering.workspace.files(alloc)?;
-            templates(alloc, offering.folders, &files)
+            let files = workspace.files(alloc)?;
+            templates(alloc, given.offering.folders, &files)
         }
-        CompletionKind::Argument(call) => arguments(alloc, offering.workspace, named, call),
+        CompletionKind::Argument(call) => arguments(alloc, workspace, given.named, call),
+        CompletionKind::Filter => listed(alloc, given.registered.filters),
+        CompletionKind::Test => listed(alloc, given.registered.tests),
+        CompletionKind::Operand => operands(alloc, given.bound, given.registered.functions),
     }
+}
+
+// What a loop has, the variables that are bound, and the functions of a list.
+fn operands<'w>(
+    alloc: Global,
+    bound: &[&'w str],
+    functions: &'w [String],
+) -> Result<Vec<&'w str>, AllocError>
+    ensures { IfOk result (λ v. texts v.items
+        ≡ (loop_names ++ texts bound.now) ++ map string_bytes functions.now) }
+{
+    let mut names = Vec::from_array(alloc, LOOP_NAMES)?;
+    push_all(&mut names, bound)?;
+    push_listed(&mut names, functions)?;
+    Ok(names)
+}
+
+// The names of a list.
+fn listed<'w>(alloc: Global, list: &'w [String]) -> Result<Vec<&'w str>, AllocError>
+    ensures { IfOk result (λ v. texts v.items ≡ map string_bytes list.now) }
+{
+    let mut names = Vec::new(alloc);
+    push_listed(&mut names, list)?;
+    Ok(names)
+}
+
+fn push_listed<'w>(names: &mut Vec<&'w str>, list: &'w [String]) -> Result<(), AllocError>
+    ensures { OnOk result (texts names.new.items ≡ texts names.old.items ++ map string_bytes list.now) }
+{
+    for name in list {
+        names.push(name.as_str())?;
+    }
+    Ok(())
+}
+
+fn push_all<'w>(names: &mut Vec<&'w str>, list: &[&'w str]) -> Result<(), AllocError>
+    ensures { OnOk result (texts names.new.items ≡ texts names.old.items ++ texts list.now) }
+{
+    for name in list {
+        names.push(*name)?;
+    }
+    Ok(())
 }
 
 // The components that documents define, and those that are in the text where one is defined.
@@ -208,5 +288,7 @@ fn kind_number(kind: CompletionKind) -> usize
         CompletionKind::Component => 7,
         CompletionKind::Template => 17,
         CompletionKind::Argument(_) => 5,
+        CompletionKind::Filter | CompletionKind::Test => 3,
+        CompletionKind::Operand => 6,
     }
 }

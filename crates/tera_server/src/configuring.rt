@@ -5,7 +5,7 @@ ghost use Rattle.std.specs.List.{filter, flat_map};
 ghost use Rattle.tera_workspace.specs.Definitions.{texts_read};
 ghost use Rattle.tera_server.specs.Configuring.{AreFoundSet, ArePublishedAgain, IsConfiguredBy, IsUnconfigured, is_reported_inside, settings_by};
 ghost use Rattle.tera_server.specs.Sending.{unpublished_of};
-ghost use Rattle.tera_server.specs.Settings.{is_in_library, off_of, settings_for, settings_in, settings_view};
+ghost use Rattle.tera_server.specs.Settings.{is_in_library, rules_of, settings_for, settings_in, settings_view};
 ghost use Rattle.tera_server.specs.States.{Grows, edited_of, needed_of, needs};
 ghost use Rattle.tera_server.specs.UnreadFiles.{reason_view, why_of};
 ghost use Rattle.tera_server.specs.declared.configuring.FoundSettings.TheVariants as found_as;
@@ -41,8 +41,8 @@ impl Server {
         self.settings.of(self.folders.as_slice(), path)
     }
 
-    /// This was found for the folder, and counts for the files in it from now on. If other rules are off than before,
-    /// what was reported of these is published again. After an allocation failure a part of that may be so.
+    /// This was found for the folder, and counts for the files in it from now on. If rules are set otherwise than
+    /// before, what was reported of these is published again. After an allocation failure a part of that may be so.
     pub fn configure(
         &mut self,
         alloc: Global,
@@ -79,20 +79,20 @@ impl Server {
         )
     }
 
-    // Whether by what was found the same rules are off in the folder as before.
+    // Whether by what was found rules are set in the folder as before.
     fn keeps_rules(&self, folder: &str, found: &FoundSettings) -> bool
         ensures { let old = settings_in self.now.settings folder.now in
-            result ≡ true → off_of (settings_by found.now old) ≡ off_of old }
+            result ≡ true → rules_of (settings_by found.now old) ≡ rules_of old }
     {
-        let off = self.settings.off_in(folder);
+        let rules = self.settings.rules_in(folder);
         match found {
-            FoundSettings::Nothing => off.is_empty(),
-            FoundSettings::Set(_, settings) => off == settings.off.as_slice(),
+            FoundSettings::Nothing => rules.is_empty(),
+            FoundSettings::Set(_, settings) => rules == settings.rules.as_slice(),
             FoundSettings::Wrong(_, _) => true,
         }
     }
 
-    // Where other rules are off, what was reported of the files in the folder is to be published.
+    // Where rules are set otherwise, what was reported of the files in the folder is to be published.
     fn publish_if_others(
         &mut self,
         alloc: Global,

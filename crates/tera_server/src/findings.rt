@@ -1,14 +1,13 @@
 //! What is found in a document, as it is published.
 
 ghost use Rattle.std.specs.Prelude.{◌≡◌, ◌∷◌, [], map, string_bytes, IfOk, OnOk, OnErr};
-ghost use Rattle.std.specs.List.{filter};
 ghost use Rattle.std.specs.Option.{option_map};
 ghost use Rattle.json_members.specs.Written.{Puts, PutsJson};
 ghost use Rattle.tera_workspace.specs.Diagnostics.{diagnostic_view, related_view};
 ghost use Rattle.tera_server.specs.Editors.{seen_of, uri_in, version_in};
 ghost use Rattle.tera_server.specs.Findings.{one_related, related_tokens, severity_number, one_found, found_if_on, found_json, reason_code, reason_tokens, version_tokens};
 ghost use Rattle.tera_server.specs.Sending.{with_all, messages_in, publisher, SendsFirst, names_beside};
-ghost use Rattle.tera_server.specs.Settings.{is_shown, reported_for, reported_view};
+ghost use Rattle.tera_server.specs.Settings.{reported_for, reported_view, shown_in};
 ghost use Rattle.tera_server.specs.UnreadFiles.{reason_view, why_of};
 
 use crate::editor::{DocumentState, Editor};
@@ -33,7 +32,7 @@ pub(crate) struct Publishing<'e> {
     pub(crate) unread: &'e UnreadFiles,
     /// Whether what explains a finding is reported beside it.
     pub(crate) related: bool,
-    /// Which rules are off, by the folders that are open.
+    /// What rules are set to, by the folders that are open.
     pub(crate) settings: &'e Settings,
     pub(crate) folders: &'e [String],
 }
@@ -98,8 +97,8 @@ fn put_published(
     ensures { PutsJson result out.old out.new
         (found_json publishing.entry.editor.now publishing.entry.related name.now
         (why_of publishing.entry.unread.now name.now)
-        (filter (is_shown (reported_for publishing.entry.settings.now
-        (map string_bytes publishing.entry.folders.now) name.now)) (map diagnostic_view found.now))) }
+        (shown_in (reported_for publishing.entry.settings.now
+        (map string_bytes publishing.entry.folders.now) name.now) (map diagnostic_view found.now))) }
 {
     let uri = uri_by(alloc, publishing.editor, name)?;
     put_tokens(
@@ -182,7 +181,7 @@ fn reason_code(why: &Reason) -> &'static str
     }
 }
 
-// The finding, if it is reported.
+// The finding, as grave as its rule counts for, if it is reported.
 fn put_if_on(
     alloc: Global,
     out: &mut Writer,
@@ -194,26 +193,27 @@ fn put_if_on(
         (found_if_on publishing.entry.editor.now publishing.entry.related
         (reported_view reported.entry) (diagnostic_view diagnostic.now)) }
 {
-    if reported.has(diagnostic.kind) {
-        put_diagnostic(alloc, out, publishing, diagnostic)
-    } else {
-        Ok(())
+    match reported.level(diagnostic.kind) {
+        Some(severity) => put_diagnostic(alloc, out, publishing, severity, diagnostic),
+        None => Ok(()),
     }
 }
 
+// The finding, so grave.
 fn put_diagnostic(
     alloc: Global,
     out: &mut Writer,
     publishing: Publishing<'_>,
+    severity: Severity,
     diagnostic: &Diagnostic,
 ) -> Result<(), AllocError>
     ensures { Puts result out.old out.new
         (one_found publishing.entry.editor.now publishing.entry.related
-        (diagnostic_view diagnostic.now)) }
+        (record (diagnostic_view diagnostic.now) { severity = severity })) }
 {
     out.begin_object()?;
     put_range(out, "range", diagnostic.start, diagnostic.end)?;
-    put_number(out, "severity", severity_number(diagnostic.severity))?;
+    put_number(out, "severity", severity_number(severity))?;
     put_tokens(
         out,
         &[

@@ -57,8 +57,8 @@ fn head_meant<'w>(
     }
 }
 
-// In the first file that defines the component.
-fn head_by<'w>(
+/// The head of the component of this name, in the first file that defines it.
+pub(crate) fn head_by<'w>(
     alloc: Global,
     workspace: &'w Workspace,
     name: &str,

@@ -1,7 +1,7 @@
 //! What the outline and the coloured tokens of a text are, as they are reported, what names lead to, what is offered
 //! and what refers to a name: each function has the law as its promise, and nothing but what it cites in its body.
 
-ghost use Rattle.std.specs.Prelude.{◌≡◌, ◌⊎◌, ℕ, List, [], length, map, slice_index_or, All, IsUtf8, Option, Some};
+ghost use Rattle.std.specs.Prelude.{◌≡◌, ◌⊎◌, ℕ, List, [], length, map, slice_index_or, All, IsUtf8, Option, None, Some};
 ghost use Rattle.std.specs.List.{Contains, find};
 ghost use Rattle.json.specs.Json.{Json};
 ghost use Rattle.tera_outline.specs.Names.{Named, holds};
@@ -11,6 +11,9 @@ ghost use Rattle.tera_outline.specs.declared.completions.CompletionKind.TheVaria
 ghost use Rattle.tera_outline.specs.declared.semantic_tokens.SemanticKind.{SemanticKind};
 ghost use Rattle.tera_outline.specs.declared.semantic_tokens.SemanticToken.{SemanticToken};
 ghost use Rattle.tera_outline.specs.Symbols.{Outlined, outline_of};
+ghost use Rattle.tera_check.specs.Levels.{level_of};
+ghost use Rattle.tera_check.specs.declared.finding.Kind.{Kind};
+ghost use Rattle.tera_check.specs.declared.levels.Levels.{Levels};
 ghost use Rattle.text_edits.specs.declared.positions.Encoding.{Encoding};
 ghost use Rattle.tera_workspace.specs.Components.{files_of};
 ghost use Rattle.tera_workspace.specs.Definitions.{DefinitionVal, definition_of_name, IsParameterIn};
@@ -23,6 +26,7 @@ ghost use Rattle.tera_server.specs.Hovers.{IsHead, IsOfDefinition};
 ghost use Rattle.tera_server.specs.Outlines.{nested, in_order, AreWithin, IsSelectable};
 ghost use Rattle.tera_server.specs.Positions.{position_at};
 ghost use Rattle.tera_server.specs.References.{LookedFor, AreReferences, IsReferenceIn, AreAllOf};
+ghost use Rattle.tera_server.specs.Settings.{RegisteredVal, level_by, level_view};
 ghost use Rattle.tera_server.specs.SemanticTokens.{all_kinds, kind_name, kind_number, placed, data_of, first, sent_token, read_from, end_of, AreApart};
 ghost use Rattle.tera_server.specs.Templates.{template_in, template_name, IsTemplateOf};
 
@@ -31,6 +35,12 @@ use tera_outline::laws::{symbols_in_text, symbols_nest};
 /// Each symbol is reported once, before those in it and after it.
 pub fn all_symbols()
     ensures { (symbols : List Outlined) → in_order (nested symbols) ≡ symbols }
+{}
+
+/// A finding counts for what it does in `tera check` by the same settings, where no option says anything else.
+pub fn levels_are_those_of_check()
+    ensures { (levels : Levels) (kind : Kind) → levels.select ≡ None → levels.ignore ≡ None →
+        level_by (Some (map level_view levels.set.now)) kind ≡ level_of levels kind }
 {}
 
 /// What is reported in a symbol begins after its start and ends no later than it, and what is reported after it begins
@@ -88,22 +98,25 @@ pub fn names_of_templates_lead()
 /// A component that is offered is defined in a document, or its name is after `component` or `endcomponent` in the text
 /// at the cursor.
 pub fn offered_components_are_defined()
-    ensures { (w : Workspace) (folders : List (List ℕ)) (named : List Named) (n : List ℕ) →
-        Contains (offered w folders named Component) n →
+    ensures { (w : Workspace) (folders : List (List ℕ)) (r : RegisteredVal) (named : List Named)
+        (bound : List (List ℕ)) (n : List ℕ) →
+        Contains (offered w folders r named bound Component) n →
         ((d : DefinitionVal) × (definition_of_name w n ≡ Some d)) ⊎ Contains (defined_names named) n }
 {}
 
 /// The name of a template that is offered leads to a file that is there and has that name.
 pub fn offered_templates_lead()
-    ensures { (w : Workspace) (folders : List (List ℕ)) (named : List Named) (n : List ℕ) →
-        Contains (offered w folders named Template) n → (f : List ℕ) × Contains (files_of w) f
+    ensures { (w : Workspace) (folders : List (List ℕ)) (r : RegisteredVal) (named : List Named)
+        (bound : List (List ℕ)) (n : List ℕ) →
+        Contains (offered w folders r named bound Template) n → (f : List ℕ) × Contains (files_of w) f
         × (template_name folders f ≡ Some n) × (template_place w folders n ≡ Some (first_of f)) }
 {}
 
 /// A parameter that is offered is one of a definition of the component that is called, in a document that was read.
 pub fn offered_parameters_are_defined()
-    ensures { (w : Workspace) (folders : List (List ℕ)) (named : List Named) (n : List ℕ) (call : ℕ) →
-        Contains (offered w folders named (Argument call)) n → (m : Named)
+    ensures { (w : Workspace) (folders : List (List ℕ)) (r : RegisteredVal) (named : List Named)
+        (bound : List (List ℕ)) (n : List ℕ) (call : ℕ) →
+        Contains (offered w folders r named bound (Argument call)) n → (m : Named)
         × (find (holds call) named ≡ Some m) × IsParameterIn (templates_of w.judged.items) m.text n }
 {}
 

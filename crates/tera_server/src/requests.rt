@@ -7,13 +7,15 @@ ghost use Rattle.json_rpc.specs.Writing.{body, answer};
 ghost use Rattle.json_rpc.specs.declared.code.Code.TheVariants.{InternalError};
 ghost use Rattle.protocol_values.specs.Members.{seen, member_of, text_in};
 ghost use Rattle.tera_server.specs.Abilities.{abilities_json};
+ghost use Rattle.tera_server.specs.Actions.{acting_view};
 ghost use Rattle.tera_outline.specs.Names.{name_view};
 ghost use Rattle.tera_server.specs.Clients.{client_in};
 ghost use Rattle.tera_server.specs.Notes.{document_in, uri_given, AreNames};
-ghost use Rattle.tera_server.specs.Requests.{asked_of, folders_in, IsBegun, RefusesDocument, RefusesPlace, IsMeant, IsResultOfText, IsResultOfName, IsResultAt, place_in, IsPut, IsAnsweredBy};
+ghost use Rattle.tera_server.specs.Requests.{asked_of, folders_in, IsBegun, IsOpenAs, IsNotOpen, RefusesDocument, RefusesPlace, IsMeant, IsMeantAs, acting_of, range_given, AreOfRange, IsResultOfText, IsResultOfName, IsResultAt, place_in, IsPut, IsAnsweredBy};
 ghost use Rattle.tera_server.specs.declared.server.Phase.TheVariants.{Running};
 
 use crate::abilities::put_abilities;
+use crate::actions::{Acting, put_actions};
 use crate::client::Client;
 use crate::completions::{Offering, put_completion};
 use crate::definitions::{name_at, put_definition};
@@ -28,10 +30,10 @@ use crate::symbols::put_outline;
 use file_uris::name_of;
 use json::{Value, Writer};
 use json_rpc::{Code, Id, begin_answer, end_message};
-use protocol_values::{is_set, items_of, member, position_of, text_of};
+use protocol_values::{is_set, items_of, member, position_of, range_of, text_of};
 use std::alloc::{AllocError, Global};
 use tera_outline::Name;
-use tera_workspace::Workspace;
+use tera_workspace::{FileText, Workspace};
 use text_edits::Encoding;
 
 /// What a request asks.
@@ -41,6 +43,7 @@ pub(crate) enum Asked {
     Shutdown,
     OfText(TextRequest),
     AtPlace(PlaceRequest),
+    Actions,
     Other,
 }
 
@@ -86,6 +89,7 @@ impl Asked {
             )),
             "textDocument/completion" => Asked::AtPlace(PlaceRequest::Completion),
             "textDocument/semanticTokens/full" => Asked::OfText(TextRequest::SemanticTokens),
+            "textDocument/codeAction" => Asked::Actions,
             _ => Asked::Other,
         }
     }
@@ -175,9 +179,12 @@ impl Server {
                 Ok(put_result_of_text(alloc, out, request, self.client.encoding, text)?)
             }
             Asked::AtPlace(request) => {
-                // What is reported is given by the texts as they are.
-                self.workspace.read(alloc)?;
+                self.workspace.read(alloc)?; // What is reported is given by the texts as they are.
                 self.put_result_at(alloc, out, request, params)
+            }
+            Asked::Actions => {
+                self.workspace.read(alloc)?;
+                self.put_actions_within(alloc, out, params)
             }
             Asked::Other => Err(Code::MethodNotFound),
         }
@@ -200,19 +207,61 @@ impl Server {
         let Some(position) = position_of(member(params, "position")) else {
             return Err(Code::InvalidParams);
         };
-        let text = self.text_meant(alloc, params)?;
+        let (name, text) = self.document_meant(alloc, params)?;
         match request {
             PlaceRequest::OfName(request) => {
-                let name = name_at(alloc, self.client.encoding, text, position)?;
-                Ok(self.put_result_of_name(alloc, out, request, params, &name)?)
+                let named = name_at(alloc, self.client.encoding, text, position)?;
+                Ok(self.put_result_of_name(alloc, out, request, params, &named)?)
             }
             PlaceRequest::Completion => {
                 let offering = Offering {
                     workspace: &self.workspace,
                     folders: &self.folders,
                 };
-                Ok(put_completion(alloc, out, offering, self.client.encoding, text, position)?)
+                let registered = self
+                    .settings
+                    .registered(self.folders.as_slice(), name.as_str());
+                let encoding = self.client.encoding;
+                Ok(put_completion(alloc, out, offering, registered, encoding, text, position)?)
             }
+        }
+    }
+
+    // Writes what may be done within the range that the parameters say, by the documents as they were read.
+    fn put_actions_within(
+        &self,
+        alloc: Global,
+        out: &mut Writer,
+        params: Option<&Value<'_>>,
+    ) -> Result<(), Code>
+        ensures result { MatchResult result
+            (λ _. (j : Json) × AreOfRange (range_given (seen params.entry)) (uri_given (document_in (seen params.entry))) self.now j
+            × (out.new.tokens ≡ out.old.tokens ++ json_tokens j))
+            (λ code. (code ≡ InternalError)
+            ⊎ RefusesPlace (range_given (seen params.entry)) (uri_given (document_in (seen params.entry))) self.now code) }
+        ensures before { out.new.before ≡ out.old.before }
+    {
+        let Some(range) = range_of(member(params, "range")) else {
+            return Err(Code::InvalidParams);
+        };
+        let (name, text) = self.document_meant(alloc, params)?;
+        let document = FileText {
+            file: name.as_str(),
+            text,
+        };
+        Ok(put_actions(alloc, out, self.acting(), document, range)?)
+    }
+
+    // By what actions are offered.
+    fn acting(&self) -> Acting<'_>
+        ensures { acting_view result ≡ acting_of self.now }
+    {
+        Acting {
+            workspace: &self.workspace,
+            editor: &self.editor,
+            settings: &self.settings,
+            folders: self.folders.as_slice(),
+            encoding: self.client.encoding,
         }
     }
 
@@ -261,14 +310,36 @@ impl Server {
         ensures { MatchResult result (λ text. IsMeant (uri_given (document_in (seen params.entry))) self.now text.now)
             (λ code. (code ≡ InternalError) ⊎ RefusesDocument (uri_given (document_in (seen params.entry))) self.now code) }
     {
+        let (_, text) = self.document_meant(alloc, params)?;
+        Ok(text)
+    }
+
+    // The name of this document, and its text.
+    fn document_meant(
+        &self,
+        alloc: Global,
+        params: Option<&Value<'_>>,
+    ) -> Result<(String, &str), Code>
+        ensures { MatchResult result (λ document. IsMeantAs (uri_given (document_in (seen params.entry))) self.now
+            (string_bytes document.0) document.1.now)
+            (λ code. (code ≡ InternalError) ⊎ RefusesDocument (uri_given (document_in (seen params.entry))) self.now code) }
+    {
         let Some(uri) = text_of(member(member(params, "textDocument"), "uri")) else {
             return Err(Code::InvalidParams);
         };
         let name = name_of(alloc, uri)?;
-        match self.editor.state(name.as_str()) {
+        let text = self.open_text(name.as_str())?;
+        Ok((name, text))
+    }
+
+    // The text of the document of this name, which the editor has open.
+    fn open_text(&self, name: &str) -> Result<&str, Code>
+        ensures { MatchResult result (λ text. IsOpenAs name.now self.now text.now) (IsNotOpen name.now self.now) }
+    {
+        match self.editor.state(name) {
             DocumentState::Closed => Err(Code::InvalidParams),
             DocumentState::Lost => Err(Code::RequestFailed),
-            DocumentState::Open => match self.workspace.text(name.as_str()) {
+            DocumentState::Open => match self.workspace.text(name) {
                 Some(text) => Ok(text),
                 None => Err(Code::InvalidParams),
             },

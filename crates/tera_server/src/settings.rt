@@ -3,13 +3,12 @@
 ghost use Rattle.std.specs.Prelude.{◌≡◌, ℕ, List, None, Some, map, string_bytes, IfSome, OnOk, OnErr};
 ghost use Rattle.std.specs.Option.{option_map};
 ghost use Rattle.tera_server.specs.Settings as specs;
-ghost use Rattle.tera_server.specs.Settings.{IsFileAt, IsSetAt, file_in, reported_view, settings_in, settings_view};
+ghost use Rattle.tera_server.specs.Settings.{IsFileAt, IsSetAt, file_in, registered_view, reported_view, rule_view, settings_in, settings_view};
 
-use crate::notes::has_name;
 use crate::templates::is_inside;
 use std::alloc::{AllocError, Global};
 use std::collections::BTreeMap;
-use tera_check::Kind;
+use tera_check::{Kind, Severity};
 
 /// What settings say of the templates below a folder.
 #[derive(Debug, Drop)]
@@ -20,15 +19,36 @@ pub struct FolderSettings {
     pub exclude: Vec<String>,
     /// Files and folders with components that may be called, by the paths by which the system knows them.
     pub libraries: Vec<String>,
-    /// The names of the rules that are off.
-    pub off: Vec<String>,
+    /// What rules are set to. All others count for what [`Kind::default_level`] says.
+    pub rules: Vec<RuleSetting>,
+    /// The names of the filters that the program registers, if they are known.
+    pub filters: Option<Vec<String>>,
+    /// The names of the tests that it registers.
+    pub tests: Option<Vec<String>>,
+    /// The names of the functions that it registers.
+    pub functions: Option<Vec<String>>,
+}
+
+/// What a rule is set to. With no level its findings are off.
+#[derive(Debug, Drop, PartialEq, Eq)]
+pub struct RuleSetting {
+    pub rule: String,
+    pub level: Option<Severity>,
+}
+
+/// The names that a program registers, as far as they are known.
+#[derive(Clone, Copy)]
+pub(crate) struct RegisteredNames<'s> {
+    pub(crate) filters: &'s [String],
+    pub(crate) tests: &'s [String],
+    pub(crate) functions: &'s [String],
 }
 
 /// What is reported of a file beside its faults.
 #[derive(Clone, Copy)]
 pub(crate) enum Reported<'s> {
-    /// All but these rules.
-    AllBut(&'s [String]),
+    /// What counts for anything, where these rules are set.
+    By(&'s [RuleSetting]),
     /// Nothing, as it is one of a library.
     Nothing,
 }
@@ -63,14 +83,32 @@ impl Settings {
         }
     }
 
+    /// The names that the program registers for the templates of a file.
+    pub(crate) fn registered(&self, folders: &[String], file: &str) -> RegisteredNames<'_>
+        ensures { registered_view result ≡ specs.registered_for self.now (map string_bytes folders.now) file.now }
+    {
+        match self.of(folders, file) {
+            Some(settings) => RegisteredNames {
+                filters: names_in(&settings.filters),
+                tests: names_in(&settings.tests),
+                functions: names_in(&settings.functions),
+            },
+            None => RegisteredNames {
+                filters: &[],
+                tests: &[],
+                functions: &[],
+            },
+        }
+    }
+
     /// What is reported of a file: in a folder by its settings, and of another one in a library no more than faults.
     pub(crate) fn reported(&self, folders: &[String], file: &str) -> Reported<'_>
         ensures { reported_view result ≡ specs.reported_for self.now (map string_bytes folders.now) file.now }
     {
         match folder_of(folders, file) {
-            Some(folder) => Reported::AllBut(self.off_in(folder)),
+            Some(folder) => Reported::By(self.rules_in(folder)),
             None if self.is_in_library(file) => Reported::Nothing,
-            None => Reported::AllBut(&[]),
+            None => Reported::By(&[]),
         }
     }
 
@@ -86,12 +124,12 @@ impl Settings {
         false
     }
 
-    /// The rules that are off by the settings of a folder.
-    pub(crate) fn off_in(&self, folder: &str) -> &[String]
-        ensures { map string_bytes result.now ≡ specs.off_of (settings_in self.now folder.now) }
+    /// What rules are set to by the settings of a folder.
+    pub(crate) fn rules_in(&self, folder: &str) -> &[RuleSetting]
+        ensures { map rule_view result.now ≡ specs.rules_of (settings_in self.now folder.now) }
     {
         match self.of_folders.get(folder) {
-            Some(settings) => settings.off.as_slice(),
+            Some(settings) => settings.rules.as_slice(),
             None => &[],
         }
     }
@@ -152,6 +190,16 @@ impl Settings {
     }
 }
 
+// The names of a list; none, if there is none.
+fn names_in(list: &Option<Vec<String>>) -> &[String]
+    ensures { map string_bytes result.now ≡ specs.names_in list.now }
+{
+    match list {
+        Some(names) => names.as_slice(),
+        None => &[],
+    }
+}
+
 /// The first of the folders that is at the path, or has it in it at any depth.
 fn folder_of<'f>(folders: &'f [String], path: &str) -> Option<&'f str>
     ensures { option_map (λ f. f.now) result ≡ specs.folder_of (map string_bytes folders.now) path.now }
@@ -171,19 +219,41 @@ fn holds(folder: &str, path: &str) -> bool
 }
 
 impl Reported<'_> {
+    /// What findings of the kind count for, unless they are off. Faults are as grave as they are, whatever is set.
+    pub(crate) fn level(self, kind: Kind) -> Option<Severity>
+        ensures { result ≡ specs.level_by (reported_view self.entry) kind }
+    {
+        if matches!(kind, Kind::Fault) {
+            return Some(kind.severity());
+        }
+        self.set_level(kind)
+    }
+
     /// Whether findings of the kind are reported. Faults always are.
     pub(crate) fn has(self, kind: Kind) -> bool
         ensures { result ≡ specs.is_on (reported_view self.entry) kind }
     {
-        matches!(kind, Kind::Fault) || self.has_rule(kind.name())
+        self.level(kind).is_some()
     }
 
-    fn has_rule(self, rule: &str) -> bool
-        ensures { result ≡ specs.has_rule (reported_view self.entry) rule.now }
+    fn set_level(self, kind: Kind) -> Option<Severity>
+        ensures { result ≡ specs.set_level (reported_view self.entry) kind }
     {
         match self {
-            Reported::AllBut(off) => !has_name(off, rule),
-            Reported::Nothing => false,
+            Reported::By(rules) => level_in(rules, kind),
+            Reported::Nothing => None,
         }
     }
+}
+
+// What findings of the kind count for where these rules are set.
+fn level_in(rules: &[RuleSetting], kind: Kind) -> Option<Severity>
+    ensures { result ≡ specs.level_in (map rule_view rules.now) kind }
+{
+    for rule in rules {
+        if rule.rule.as_str() == kind.name() {
+            return rule.level;
+        }
+    }
+    kind.default_level()
 }

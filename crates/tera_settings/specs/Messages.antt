@@ -1,8 +1,9 @@
 -- What is said of a fault.
-use Rattle.std.specs.Prelude.{◌≡◌, ℕ, List, ◌++◌, Option, None, Some, codes, string_bytes}
+use Rattle.std.specs.Prelude.{◌≡◌, ℕ, List, ◌++◌, Bool, true, false, Option, None, Some, bytes_eq, codes, if◌then◌else◌, string_bytes}
 use Rattle.std.specs.Option.{option_map}
-use Rattle.tera_settings.specs.Meaning.{keys_of}
+use Rattle.tera_settings.specs.Meaning.{keys_of, known_names}
 use Rattle.tera_settings.specs.Near.{IsNearest}
+use Rattle.tera_settings.specs.Values.{is_among}
 use Rattle.tera_settings.specs.declared.fault.Fault.{Fault}
 use Rattle.tera_settings.specs.declared.fault.Fault.TheVariants as faults
 use Rattle.tera_settings.specs.declared.fault.Why.{Why}
@@ -18,13 +19,42 @@ unknown_text what key (Some name) =
 abbrev pub IsUnknownText : List ℕ → List ℕ → List (List ℕ) → List ℕ → Type 0
 IsUnknownText what key names text = (near : Option (List ℕ)) × IsNearest key names near × (text ≡ unknown_text what key near)
 
+-- a key at the top of the file that is one of its table `known`
+abbrev pub is_misplaced : Option (List ℕ) → List ℕ → Bool
+is_misplaced None key = is_among known_names key
+is_misplaced (Some table) key = false
+
+abbrev pub misplaced_text : List ℕ → List ℕ
+misplaced_text key = codes "unknown key `" ++ (key ++ codes "`: it is a key of the table `known`")
+
+abbrev pub IsKeyText : Bool → List (List ℕ) → List ℕ → List ℕ → Type 0
+IsKeyText true names key text = text ≡ misplaced_text key
+IsKeyText false names key text = IsUnknownText (codes "key") key names text
+
+abbrev pub IsUnknownKeyText : Option (List ℕ) → List ℕ → List ℕ → Type 0
+IsUnknownKeyText table key text = IsKeyText (is_misplaced table key) (keys_of table) key text
+
+-- a word for findings that are always errors, which is not the name of a rule that can be set
+abbrev pub fixed_text : List ℕ → Option (List ℕ)
+fixed_text word =
+    if bytes_eq word (codes "fault") then Some (codes "`fault` cannot be set: a syntax error is always an error")
+    else if bytes_eq word (codes "unread")
+    then Some (codes "`unread` cannot be set: a file that cannot be read is always an error") else None
+
+abbrev pub IsRuleText : Option (List ℕ) → List (List ℕ) → List ℕ → List ℕ → Type 0
+IsRuleText (Some fixed) rules key text = text ≡ fixed
+IsRuleText None rules key text = IsUnknownText (codes "rule") key rules text
+
+abbrev pub IsUnknownRuleText : List (List ℕ) → List ℕ → List ℕ → Type 0
+IsUnknownRuleText rules key text = IsRuleText (fixed_text key) rules key text
+
 -- a value of another type
 abbrev pub expected_text : List ℕ → List ℕ → List ℕ
 expected_text key what = codes "`" ++ (key ++ (codes "`: expected " ++ what))
 
 abbrev pub IsMessage : List (List ℕ) → Option (List ℕ) → List ℕ → Why → List ℕ → Type 0
-IsMessage rules table key whys.UnknownKey text = IsUnknownText (codes "key") key (keys_of table) text
-IsMessage rules table key whys.UnknownRule text = IsUnknownText (codes "rule") key rules text
+IsMessage rules table key whys.UnknownKey text = IsUnknownKeyText table key text
+IsMessage rules table key whys.UnknownRule text = IsUnknownRuleText rules key text
 IsMessage rules table key whys.NotText text = text ≡ expected_text key (codes "a string")
 IsMessage rules table key whys.NotTexts text = text ≡ expected_text key (codes "an array of strings")
 IsMessage rules table key whys.NotLevel text = text ≡ expected_text key (codes "\"off\", \"warning\" or \"error\"")

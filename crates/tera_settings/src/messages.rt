@@ -2,12 +2,13 @@
 
 ghost use Rattle.std.specs.Prelude.{◌≡◌, IfOk, Some, string_bytes};
 ghost use Rattle.std.specs.Option.{option_map};
-ghost use Rattle.tera_settings.specs.Messages.{IsMessageOf, IsMessageOfMember, IsUnknownText, unknown_text, expected_text};
+ghost use Rattle.tera_settings.specs.Messages.{IsMessageOf, IsMessageOfMember, IsUnknownKeyText, IsUnknownRuleText, IsUnknownText, expected_text, fixed_text, is_misplaced, unknown_text};
 ghost use Rattle.tera_settings.specs.Values.{texts};
 
 use crate::fault::{Fault, Why, Wrong};
 use crate::near::nearest;
 use crate::reading::keys_of;
+use crate::section::is_among;
 use std::alloc::{AllocError, Global};
 
 impl Fault {
@@ -28,12 +29,55 @@ fn message_of(alloc: Global, rules: &[&str], wrong: &Wrong) -> Result<String, Al
 {
     let key = wrong.key.as_str();
     match wrong.why {
-        Why::UnknownKey => unknown(alloc, "key", key, keys_of(wrong.table)),
-        Why::UnknownRule => unknown(alloc, "rule", key, rules),
+        Why::UnknownKey => unknown_key(alloc, wrong.table, key),
+        Why::UnknownRule => unknown_rule(alloc, rules, key),
         Why::NotText => expected(alloc, key, "a string"),
         Why::NotTexts => expected(alloc, key, "an array of strings"),
         Why::NotLevel => expected(alloc, key, "\"off\", \"warning\" or \"error\""),
         Why::NotTable => expected(alloc, key, "a table"),
+    }
+}
+
+fn unknown_key(alloc: Global, table: Option<&str>, key: &str) -> Result<String, AllocError>
+    ensures { IfOk result (λ text. IsUnknownKeyText (option_map (λ t. t.now) table.entry) key.now
+        (string_bytes text)) }
+{
+    if is_misplaced(table, key) {
+        format!(in alloc; "unknown key `{key}`: it is a key of the table `known`")
+    } else {
+        unknown(alloc, "key", key, keys_of(table))
+    }
+}
+
+// Whether the key is at the top of the file, but is one of the table `known`.
+fn is_misplaced(table: Option<&str>, key: &str) -> bool
+    ensures { result ≡ is_misplaced (option_map (λ t. t.now) table.entry) key.now }
+{
+    match table {
+        None => is_among(keys_of(Some("known")), key),
+        Some(_) => false,
+    }
+}
+
+fn unknown_rule(alloc: Global, rules: &[&str], key: &str) -> Result<String, AllocError>
+    ensures { IfOk result (λ text. IsUnknownRuleText (texts rules.now) key.now (string_bytes text)) }
+{
+    match fixed_text(key) {
+        Some(text) => String::from_str(alloc, text),
+        None => unknown(alloc, "rule", key, rules),
+    }
+}
+
+// What is said of a word for findings that are always errors.
+fn fixed_text(word: &str) -> Option<&'static str>
+    ensures { option_map (λ text. text.now) result ≡ fixed_text word.now }
+{
+    if word == "fault" {
+        Some("`fault` cannot be set: a syntax error is always an error")
+    } else if word == "unread" {
+        Some("`unread` cannot be set: a file that cannot be read is always an error")
+    } else {
+        None
     }
 }
 

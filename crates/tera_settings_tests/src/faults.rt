@@ -20,6 +20,11 @@ fn a_key_that_no_setting_has(rt: HostRuntime) -> Result<(), Fail> {
     assert_eq!(rt; found.as_str(), "1: unknown key `theme`");
     let found = shown(alloc, "foo = 1\n")?;
     assert_eq!(rt; found.as_str(), "0: unknown key `foo`");
+    let found = shown(alloc, "tests = []\n")?;
+    assert_eq!(rt;
+        found.as_str(),
+        "0: unknown key `tests`: it is a key of the table `known`"
+    );
     Ok(())
 }
 
@@ -27,7 +32,8 @@ fn a_key_that_no_setting_has(rt: HostRuntime) -> Result<(), Fail> {
 fn a_key_after_what_is_no_key(rt: HostRuntime) -> Result<(), Fail> {
     let alloc = rt.alloc();
     let found = shown(alloc, "\u{feff}[rules]\nfault = \"off\"\n")?;
-    assert_eq!(rt; found.as_str(), "11: unknown rule `fault`");
+    let expected = "11: `fault` cannot be set: a syntax error is always an error";
+    assert_eq!(rt; found.as_str(), expected);
     let found = shown(alloc, "root = \"\"\"\nrot = 1\n\"\"\"\nrot = 2\n")?;
     assert_eq!(rt;
         found.as_str(),
@@ -48,7 +54,11 @@ fn a_rule_that_is_not_known(rt: HostRuntime) -> Result<(), Fail> {
     let found = shown(alloc, "[rules]\nunused-paramter = \"off\"\n")?;
     assert_eq!(rt; found.as_str(), expected);
     let found = shown(alloc, "rules = { fault = \"off\" }\n")?;
-    assert_eq!(rt; found.as_str(), "0: unknown rule `fault`");
+    let expected = "0: `fault` cannot be set: a syntax error is always an error";
+    assert_eq!(rt; found.as_str(), expected);
+    let expected = "8: `unread` cannot be set: a file that cannot be read is always an error";
+    let found = shown(alloc, "[rules]\nunread = \"error\"\n")?;
+    assert_eq!(rt; found.as_str(), expected);
     Ok(())
 }
 

@@ -9,9 +9,8 @@ use Rattle.std.proofs.lemmas.List.Elements.{Contains-append_left, Contains-appen
 use Rattle.std.proofs.lemmas.Option.{get_or_from_slice_get, slice_get_within}
 use Rattle.link_groups.specs.Groups.{AreGroups, AreOnCircles, IsOnCircle, Reaches, is_one_group, links_at}
 use Rattle.link_groups.proofs.CircleLemmas.{back}
-use Rattle.tera_check.specs.declared.templates.Template.{Template}
-use Rattle.tera_site.specs.Pages.{PageVal, page_of}
-use Rattle.tera_site.specs.Sites.{AreInherited, IsAround, SiteVal, if_any, leads, number_from, numbers_by, parent_names, parents, site_of, used_names}
+use Rattle.tera_site.specs.Pages.{PageVal}
+use Rattle.tera_site.specs.Sites.{AreInherited, IsAround, SiteVal, if_any, leads, number_from, numbers_by, parent_names, parents, site_with, used_names}
 use Rattle.tera_site.specs.Views.{around_in, has_name, under_name}
 use Rattle.tera_site.specs.declared.site.Site.{Site}
 use Rattle.tera_site.proofs.TourLemmas.{first_in, in_cases, later_in, no_way, none_in, None_Some, same_Some}
@@ -28,15 +27,15 @@ number_in named (m ∷ ms) n j has is = elim (in_cases m ms n has) [
   | inr later ↦ Contains-append_right (if_any (named m)) (numbers_by named ms) j (number_in named ms n j later is)
 ]
 
-module _ (names : List (Option (List ℕ))) (ts : List Template) (pages : List PageVal) (named : List ℕ → Option ℕ)
-    (is_named : (n : List ℕ) → named n ≡ number_from 0 names n) (are_pages : pages ≡ map page_of ts) where
+module _ (names : List (Option (List ℕ))) (pages : List PageVal) (named : List ℕ → Option ℕ)
+    (is_named : (n : List ℕ) → named n ≡ number_from 0 names n) where
   abbrev s : SiteVal
-  s = site_of names ts
+  s = site_with names pages
 
   -- the links that the code has
   pub links_are : (used : PageVal → List (List ℕ)) (links : List (List ℕ)) → links ≡ map (λ p. numbers_by named (used p)) pages
       → links ≡ map (λ p. numbers_by s.named (used p)) s.pages
-  links_are used links is = is ∙ λ i. map (λ p. numbers_by (λ n. is_named n i) (used p)) (are_pages i)
+  links_are used links is = is ∙ λ i. map (λ p. numbers_by (λ n. is_named n i) (used p)) pages
 
   -- what a template includes leads back to it, where both are in one group
   pub comes_back : (links : List (List ℕ)) (groups : List ℕ) → links ≡ leads s → AreGroups links groups
@@ -67,10 +66,9 @@ module _ (names : List (Option (List ℕ))) (ts : List Template) (pages : List P
       subst (λ xs. (get_or on number false ≡ true) ↔ IsOnCircle xs number) are (h.circles number inside)
 
 -- a site that has all of this
-pub record IsMade (names : List (Option (List ℕ))) (others : List ℕ → Bool) (ts : List Template) (pages : List PageVal) (links ties : List (List ℕ)) (site : Site) : Type 0 where
+pub record IsMade (names : List (Option (List ℕ))) (others : List ℕ → Bool) (pages : List PageVal) (links ties : List (List ℕ)) (site : Site) : Type 0 where
   pub named : (n : List ℕ) → under_name site.numbers n ≡ number_from 0 names n
   pub rest : (n : List ℕ) → contains_text site.others.now n ≡ others n
-  pub are : pages ≡ map page_of ts
   pub up : links ≡ map (λ p. numbers_by (under_name site.numbers) (parent_names p)) pages
   pub used : ties ≡ map (λ p. numbers_by (under_name site.numbers) (used_names p)) pages
   pub circles : AreOnCircles links site.circular.items
@@ -78,16 +76,16 @@ pub record IsMade (names : List (Option (List ℕ))) (others : List ℕ → Bool
   pub inherited : (s : SiteVal) → s.pages ≡ pages → links ≡ parents s → (number : ℕ) (p : PageVal) → slice_get s.pages number ≡ Some p
       → AreInherited s p (option_map has_name (get_or site.inherited.items number None))
 
-pub all_around : (names : List (Option (List ℕ))) (others : List ℕ → Bool) (ts : List Template) (pages : List PageVal) (links ties : List (List ℕ)) (site : Site)
-    → IsMade names others ts pages links ties site → (number : ℕ) (p : PageVal) → slice_get (site_of names ts).pages number ≡ Some p
-    → IsAround (site_of names ts) others number p (around_in site number)
-all_around names others ts pages links ties site h number p at =
+pub all_around : (names : List (Option (List ℕ))) (others : List ℕ → Bool) (pages : List PageVal) (links ties : List (List ℕ)) (site : Site)
+    → IsMade names others pages links ties site → (number : ℕ) (p : PageVal) → slice_get pages number ≡ Some p
+    → IsAround (site_with names pages) others number p (around_in site number)
+all_around names others pages links ties site h number p at =
     let named = under_name site.numbers in
-    let ups = links_are names ts pages named h.named h.are parent_names links h.up in
-    let leading = links_are names ts pages named h.named h.are used_names ties h.used in
+    let ups = links_are names pages named h.named parent_names links h.up in
+    let leading = links_are names pages named h.named used_names ties h.used in
     record {
       has = λ n. λ i. is_some (h.named n i) || h.rest n i;
-      extends_itself = on_circle names ts pages named h.named h.are links site.circular.items ups h.circles number p at;
-      comes_back = λ n has. comes_back names ts pages named h.named h.are ties site.groups.items leading h.groups number p at n has (named n) (h.named n);
-      inherited = h.inherited (site_of names ts) (sym h.are) ups number p at;
+      extends_itself = on_circle names pages named h.named links site.circular.items ups h.circles number p at;
+      comes_back = λ n has. comes_back names pages named h.named ties site.groups.items leading h.groups number p at n has (named n) (h.named n);
+      inherited = h.inherited (site_with names pages) refl ups number p at;
     }

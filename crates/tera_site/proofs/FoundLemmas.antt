@@ -1,14 +1,17 @@
 -- What is found of names is added in one template after the other.
-use Rattle.std.proofs.Common.{◌≡◌, ◌≢◌, ◌∙◌, ◌<◌, ◌≤◌, ◌+◌, ◌⊎◌, inl, inr, ℕ, zero, suc, Bool, true, false, List, [], ◌∷◌, ◌++◌, Option, None, Some, length, map, refl, set, sym, ap, subst, arith}
+use Rattle.std.proofs.Common.{◌≡◌, ◌≢◌, ◌∙◌, ◌<◌, ◌≤◌, ◌+◌, ◌⊎◌, inl, inr, ℕ, zero, suc, Bool, true, false, List, [], ◌∷◌, ◌++◌, Option, None, Some, length, map, refl, set, Result, Ok, Err, OnOk, Vec, sym, ap, subst, arith}
 use Rattle.std.specs.Prelude.{slice_get}
+use Rattle.std.specs.declared.alloc.Global.{Global}
 use Rattle.std.specs.List.Sorted.{IsPermutation}
 use Rattle.std.proofs.lemmas.List.{length-set, map-append}
 use Rattle.std.proofs.lemmas.List.Sorted.{IsPermutation-append_right, IsPermutation-map, IsPermutation-trans}
 use Rattle.tera_check.specs.Findings.{FindingVal, finding_view}
+use Rattle.tera_check.specs.OrderAndStatus.{IsInOrder}
 use Rattle.tera_check.specs.declared.finding.Finding.{Finding}
 use Rattle.tera_check.specs.declared.found.Found.{Found}
 use Rattle.tera_check.specs.declared.templates.Template.{Template}
 use Rattle.tera_site.specs.Found.{AddsAt, AddsIf, AreAdded, IsWith, is_named}
+use Rattle.tera_site.specs.Named.{due_names}
 use Rattle.tera_site.specs.Sites.{AroundVal}
 use Rattle.tera_site.specs.declared.found.SiteNames.{SiteNames}
 use Rattle.tera_site.proofs.TourLemmas.{None_Some, no_way, same_Some}
@@ -62,6 +65,13 @@ together found more both due same moved =
     (subst (IsPermutation (map finding_view found ++ due)) (sym (map-append finding_view found more))
     (IsPermutation-append_right (map finding_view found) due (map finding_view more) same))
     (IsPermutation-map finding_view (found ++ more) both moved)
+
+-- .. of a file
+pub is_with : {E : Type 0} (r : Result (Unit {0}) E) (a : AroundVal) (t : Template) (old : Found) (findings : Vec Finding Global)
+    → OnOk r (IsInOrder findings.items) → OnOk r (IsPermutation (map finding_view old.findings.items ++ due_names a t) (map finding_view findings.items))
+    → OnOk r (IsWith a t old (record old { findings = findings }))
+is_with (Ok x) a t old findings ordered found = record { file = refl; in_order = ordered; found = found }
+is_with (Err x) a t old findings ordered found = tt
 
 -- ---- one after the other
 

@@ -1,7 +1,9 @@
 pub mod AroundLemmas
 pub mod CountLemmas
 pub mod FoundLemmas
+pub mod KeptLemmas
 pub mod NumbersLemmas
+pub mod PageAgreement
 pub mod PageLemmas
 pub mod PlacedLemmas
 pub mod SiteLemmas

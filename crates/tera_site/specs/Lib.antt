@@ -1,6 +1,7 @@
 pub mod Alike
 pub mod Found
 pub mod Inside
+pub mod Kept
 pub mod Named
 pub mod Pages
 pub mod Placed

@@ -21,8 +21,11 @@ abbrev pub number_from : ℕ → List (Option (List ℕ)) → List ℕ → Optio
 number_from at [] n = None
 number_from at (m ∷ ms) n = cond (is_name m n) (Some at) (number_from (suc at) ms n)
 
+abbrev pub site_with : List (Option (List ℕ)) → List PageVal → SiteVal
+site_with names pages = record { named = number_from 0 names; pages = pages }
+
 abbrev pub site_of : List (Option (List ℕ)) → List Template → SiteVal
-site_of names ts = record { named = number_from 0 names; pages = map page_of ts }
+site_of names ts = site_with names (map page_of ts)
 
 -- ---- where the names of a page lead
 
@@ -85,8 +88,10 @@ pub record IsAround (s : SiteVal) (others : List ℕ → Bool) (number : ℕ) (p
       → (a.comes_back n ≡ true) ↔ ((j : ℕ) × (s.named n ≡ Some j) × Reaches (leads s) j number)
   pub inherited : AreInherited s p a.inherited
 
--- so is it for each of the templates
+-- so is it for each of some pages, and of the templates
+abbrev pub IsSiteOf : List (Option (List ℕ)) → (List ℕ → Bool) → List PageVal → (ℕ → AroundVal) → Type 0
+IsSiteOf names others pages around =
+    (number : ℕ) (p : PageVal) → slice_get pages number ≡ Some p → IsAround (site_with names pages) others number p (around number)
+
 abbrev pub IsSite : List (Option (List ℕ)) → (List ℕ → Bool) → List Template → (ℕ → AroundVal) → Type 0
-IsSite names others ts around =
-    let s = site_of names ts in
-    (number : ℕ) (p : PageVal) → slice_get s.pages number ≡ Some p → IsAround s others number p (around number)
+IsSite names others ts around = IsSiteOf names others (map page_of ts) around

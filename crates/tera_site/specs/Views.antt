@@ -10,7 +10,9 @@ use Rattle.link_groups.specs.Groups.{is_one_group}
 use Rattle.tera_site.specs.Pages.{PageVal}
 use Rattle.tera_site.specs.Sites.{AroundVal}
 use Rattle.tera_site.specs.declared.pages.Page.{Page}
+use Rattle.tera_site.specs.Kept.{kept_around}
 use Rattle.tera_site.specs.declared.site.Around.{Around}
+use Rattle.tera_site.specs.declared.site.Around.TheVariants as arounds
 use Rattle.tera_site.specs.declared.site.Site.{Site}
 
 -- what a map has under a name, and whether a set has it
@@ -41,4 +43,5 @@ around_in s number = record {
 }
 
 abbrev pub around_view : Around → AroundVal
-around_view a = around_in a.site.now a.number
+around_view (arounds.In site number) = around_in site.now number
+around_view (arounds.Kept kept) = kept_around kept.now

@@ -2,10 +2,13 @@
 
 ghost use Rattle.std.specs.Prelude.{◌≡◌, ◌++◌, IfOk, OnOk, map};
 ghost use Rattle.std.specs.List.{flat_map};
-ghost use Rattle.std.specs.Option.{option_map};
+ghost use Rattle.std.specs.List.Sorted.{IsPermutation};
+ghost use Rattle.tera_check.specs.Findings.{finding_view};
+ghost use Rattle.tera_check.specs.OrderAndStatus.{IsInOrder};
+ghost use Rattle.tera_site.specs.Named.{due_names};
 ghost use Rattle.tera_site.specs.Found.{AddsAt, AddsIf, AddsNames, IsWith, is_named};
 ghost use Rattle.tera_site.specs.Pages.{page_of};
-ghost use Rattle.tera_site.specs.Sites.{if_any, used_names};
+ghost use Rattle.tera_site.specs.Sites.{used_names};
 ghost use Rattle.tera_site.specs.Views.{around_view, names_of};
 
 use crate::named::names_found;
@@ -13,7 +16,7 @@ use crate::pages::page_of;
 use crate::site::{Around, Site};
 use std::alloc::{AllocError, Global};
 use std::collections::BTreeSet;
-use tera_check::{Found, Template, put_in_order};
+use tera_check::{Finding, Found, Template, put_in_order};
 
 /// The names of the templates of a site.
 #[derive(Drop)]
@@ -97,9 +100,23 @@ fn add_to(
 ) -> Result<(), AllocError>
     ensures { OnOk result (IsWith (around_view around.entry) template.now found.old found.new) }
 {
+    add_found(alloc, around, template, &mut found.findings)
+}
+
+/// Adds what is found of the names that the template has to what else is found in it, in the order of the places.
+pub fn add_found(
+    alloc: Global,
+    around: Around<'_, '_>,
+    template: &Template,
+    findings: &mut Vec<Finding>,
+) -> Result<(), AllocError>
+    ensures ordered { OnOk result (IsInOrder findings.new.items) }
+    ensures found { OnOk result (IsPermutation (map finding_view findings.old.items
+        ++ due_names (around_view around.entry) template.now) (map finding_view findings.new.items)) }
+{
     let mut names = names_found(alloc, around, template)?;
-    found.findings.append(&mut names)?;
-    put_in_order(&mut found.findings)?;
+    findings.append(&mut names)?;
+    put_in_order(findings)?;
     Ok(())
 }
 
@@ -123,17 +140,5 @@ fn push_used<'a>(
         ≡ names_of used.old.items ++ used_names (page_of template.now)) }
 {
     let page = page_of(alloc, template)?;
-    push_if_any(used, page.parent)?;
-    used.extend_from_slice(page.includes.as_slice())?;
-    Ok(())
-}
-
-fn push_if_any<'a>(used: &mut Vec<&'a str>, name: Option<&'a str>) -> Result<(), AllocError>
-    ensures { OnOk result (names_of used.new.items
-        ≡ names_of used.old.items ++ if_any (option_map (λ n. n.now) name.entry)) }
-{
-    if let Some(name) = name {
-        used.push(name)?;
-    }
-    Ok(())
+    page.push_used(used)
 }

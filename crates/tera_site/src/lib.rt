@@ -5,17 +5,21 @@
 //! components is in `tera_check`.
 //!
 //! In the order of reading: specs `Pages` and `pages`; specs `Sites`, `site` and `above`; specs `Placed` and `Named`,
-//! `named`; `messages`; specs `Found` and `found`, beside what else is found; specs `Alike` and `laws`.
+//! `named`; `messages`; specs `Found` and `found`, beside what else is found; specs `Kept` and `kept`, what is kept apart
+//! from trees; specs `Alike` and `laws`.
 #![tactic(auto)]
 
 mod above;
 mod found;
+mod kept;
 pub mod laws;
 mod messages;
 mod named;
 mod pages;
 mod site;
 
-pub use found::{SiteNames, add_names, used_names};
+pub use found::{SiteNames, add_found, add_names, used_names};
+pub use kept::{KeptPage, Surroundings};
 pub use named::names_found;
+pub use pages::Page;
 pub use site::{Around, Site};

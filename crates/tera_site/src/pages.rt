@@ -7,6 +7,7 @@ ghost use Rattle.tera_tree.specs.Outputs.{output_view};
 ghost use Rattle.tera_tree.specs.Parts.{part_view, parts_view};
 ghost use Rattle.tera_check.specs.Within.{all_parts, parts_of};
 ghost use Rattle.tera_site.specs.Pages.{block_name, included, is_whole_by, page_by, page_of};
+ghost use Rattle.tera_site.specs.Sites.{if_any, used_names};
 ghost use Rattle.tera_site.specs.Views.{names_of, page_view};
 
 use std::alloc::{AllocError, Global};
@@ -16,12 +17,42 @@ use tera_parser::ast::{Node, Part, Parts, top_parts};
 
 /// What a template says of others, and the blocks that it has.
 #[derive(Drop)]
-pub(crate) struct Page<'a> {
+pub struct Page<'a> {
     pub(crate) parent: Option<&'a str>,
     pub(crate) includes: Vec<&'a str>,
     pub(crate) blocks: Vec<&'a str>,
     /// Whether this is all: no text that was written for a fault may have had more.
     pub(crate) is_whole: bool,
+}
+
+impl<'a> Page<'a> {
+    /// The names of templates that it uses: what it extends and includes.
+    pub fn used_names(&self, alloc: Global) -> Result<Vec<&'a str>, AllocError>
+        ensures { IfOk result (λ v. names_of v.items ≡ used_names (page_view self.now)) }
+    {
+        let mut used = Vec::new(alloc);
+        self.push_used(&mut used)?;
+        Ok(used)
+    }
+
+    pub(crate) fn push_used(&self, used: &mut Vec<&'a str>) -> Result<(), AllocError>
+        ensures { OnOk result (names_of used.new.items
+            ≡ names_of used.old.items ++ used_names (page_view self.now)) }
+    {
+        push_if_any(used, self.parent)?;
+        used.extend_from_slice(self.includes.as_slice())?;
+        Ok(())
+    }
+}
+
+fn push_if_any<'a>(used: &mut Vec<&'a str>, name: Option<&'a str>) -> Result<(), AllocError>
+    ensures { OnOk result (names_of used.new.items
+        ≡ names_of used.old.items ++ if_any (option_map (λ n. n.now) name.entry)) }
+{
+    if let Some(name) = name {
+        used.push(name)?;
+    }
+    Ok(())
 }
 
 pub(crate) fn pages_of(

@@ -6,6 +6,7 @@ ghost use Rattle.tera_site.specs.Sites.{if_any, is_name, number_from, numbers_by
 ghost use Rattle.tera_site.specs.Views.{names_of, page_view, under_name};
 
 use crate::above::{Names, all_inherited};
+use crate::kept::Surroundings;
 use crate::pages::{Page, pages_of};
 use link_groups::{groups_of, leads_back, on_circles};
 use std::alloc::{AllocError, Global};
@@ -32,17 +33,20 @@ pub struct Site<'a> {
 
 /// What is known around a template, by the names that it uses.
 #[derive(Clone, Copy)]
-pub struct Around<'s, 'a> {
-    site: &'s Site<'a>,
-    number: usize,
+pub enum Around<'s, 'a> {
+    /// Around the template of this number in the site.
+    In(&'s Site<'a>, usize),
+    /// What was kept of that.
+    Kept(&'s Surroundings),
 }
 
 impl<'a> Site<'a> {
-    ghost use Rattle.std.specs.Prelude.{◌≡◌, IfOk, map};
+    ghost use Rattle.std.specs.Prelude.{◌≡◌, ℕ, IfOk, map};
     ghost use Rattle.std.specs.BTreeSet.{contains_text};
     ghost use Rattle.tera_ast.specs.View.{name_view};
-    ghost use Rattle.tera_site.specs.Sites.{IsSite};
-    ghost use Rattle.tera_site.specs.Views.{around_in, around_view};
+    ghost use Rattle.tera_site.specs.Named.{lacks};
+    ghost use Rattle.tera_site.specs.Sites.{IsSite, IsSiteOf};
+    ghost use Rattle.tera_site.specs.Views.{around_in, around_view, page_view};
 
     /// The site of these templates. The names are in the order of the templates; one whose name is not known has none.
     /// Of templates with one name the first counts. There may be others in the site, which were not read.
@@ -55,24 +59,67 @@ impl<'a> Site<'a> {
         ensures { IfOk result (λ s. IsSite (map name_view names.now.items) (contains_text others.now)
             templates.now.items (around_in s)) }
     {
-        let numbers = numbers_of(alloc, names)?;
         let pages = pages_of(alloc, templates)?;
-        let parents = all_parents(alloc, &numbers, &pages)?;
-        let leads = all_leads(alloc, &numbers, &pages)?;
+        Site::of_pages(alloc, names, others, &pages)
+    }
+
+    /// The same of the pages of templates.
+    pub fn of_pages(
+        alloc: Global,
+        names: &'a Vec<Option<String>>,
+        others: &'a BTreeSet<String>,
+        pages: &Vec<Page<'a>>,
+    ) -> Result<Site<'a>, AllocError>
+        ensures { IfOk result (λ s. IsSiteOf (map name_view names.now.items) (contains_text others.now)
+            (map page_view pages.now.items) (around_in s)) }
+    {
+        let numbers = numbers_of(alloc, names)?;
+        let parents = all_parents(alloc, &numbers, pages)?;
+        let leads = all_leads(alloc, &numbers, pages)?;
         Ok(Site {
             circular: on_circles(alloc, &parents)?,
             groups: groups_of(alloc, &leads)?,
-            inherited: all_inherited(alloc, &pages, &parents)?,
+            inherited: all_inherited(alloc, pages, &parents)?,
             numbers,
             others,
         })
+    }
+
+    fn has(&self, name: &str) -> bool
+        ensures { (number : ℕ) → result ≡ (around_in self.now number).has name.now }
+    {
+        self.numbers.contains_key(name) || self.others.contains(name)
+    }
+
+    fn extends_itself(&self, number: usize) -> bool
+        ensures { result ≡ (around_in self.now number).extends_itself }
+    {
+        matches!(self.circular.get(number), Some(true))
+    }
+
+    fn comes_back(&self, name: &str, number: usize) -> bool
+        ensures { result ≡ (around_in self.now number).comes_back name.now }
+    {
+        match self.numbers.get(name) {
+            Some(other) => leads_back(&self.groups, *other, number),
+            None => false,
+        }
+    }
+
+    fn lacks(&self, block: &str, number: usize) -> bool
+        ensures { result ≡ lacks (around_in self.now number) block.now }
+    {
+        match self.inherited.get(number) {
+            Some(Some(blocks)) => !blocks.contains(block),
+            _ => false,
+        }
     }
 
     /// What is known around the template of this number.
     pub fn around<'s>(&'s self, number: usize) -> Around<'s, 'a>
         ensures { around_view result ≡ around_in self.now number }
     {
-        Around { site: self, number }
+        Around::In(self, number)
     }
 }
 
@@ -85,23 +132,29 @@ impl<'s, 'a> Around<'s, 'a> {
     pub(crate) fn has(&self, name: &str) -> bool
         ensures { result ≡ (around_view self.now).has name.now }
     {
-        self.site.numbers.contains_key(name) || self.site.others.contains(name)
+        match self {
+            Around::In(site, _) => site.has(name),
+            Around::Kept(kept) => kept.has(name),
+        }
     }
 
     /// Whether what the template extends leads back to it.
     pub(crate) fn extends_itself(&self) -> bool
         ensures { result ≡ (around_view self.now).extends_itself }
     {
-        matches!(self.site.circular.get(self.number), Some(true))
+        match self {
+            Around::In(site, number) => site.extends_itself(*number),
+            Around::Kept(kept) => kept.extends_itself(),
+        }
     }
 
     /// Whether the template of this name, which it includes, leads back to it.
     pub(crate) fn comes_back(&self, name: &str) -> bool
         ensures { result ≡ (around_view self.now).comes_back name.now }
     {
-        match self.site.numbers.get(name) {
-            Some(other) => leads_back(&self.site.groups, *other, self.number),
-            None => false,
+        match self {
+            Around::In(site, number) => site.comes_back(name, *number),
+            Around::Kept(kept) => kept.comes_back(name),
         }
     }
 
@@ -109,9 +162,9 @@ impl<'s, 'a> Around<'s, 'a> {
     pub(crate) fn lacks(&self, block: &str) -> bool
         ensures { result ≡ lacks (around_view self.now) block.now }
     {
-        match self.site.inherited.get(self.number) {
-            Some(Some(blocks)) => !blocks.contains(block),
-            _ => false,
+        match self {
+            Around::In(site, number) => site.lacks(block, *number),
+            Around::Kept(kept) => kept.lacks(block),
         }
     }
 }

@@ -5,7 +5,9 @@ use std::collections::BTreeSet;
 use std::test::Fail;
 use tera_check::{Template, all_found, read_template};
 use tera_report::push_lines;
-use tera_site::{SiteNames, add_names, used_names};
+use tera_site::{
+    Around, KeptPage, Site, SiteNames, Surroundings, add_found, add_names, used_names,
+};
 
 const PLANTED: [(&str, &str); 16] = [
     (
@@ -103,6 +105,49 @@ fn found_in(alloc: Global, read: &Read, checked: usize) -> Result<String, AllocE
         }
     }
     Ok(lines)
+}
+
+// What is found of names by what is kept of the pages, and of what is around them.
+fn found_by_kept(alloc: Global, read: &Read) -> Result<String, AllocError> {
+    let mut kept = Vec::new(alloc);
+    for template in &read.templates {
+        kept.push(KeptPage::of(alloc, template)?)?;
+    }
+    let mut pages = Vec::new(alloc);
+    for page in &kept {
+        pages.push(page.page(alloc)?)?;
+    }
+    let site = Site::of_pages(alloc, &read.names.names, &read.names.others, &pages)?;
+    let mut lines = String::new(alloc);
+    for (number, page) in pages.iter().enumerate() {
+        let surroundings = Surroundings::of(alloc, site.around(number), page)?;
+        if let Some(template) = read.templates.get(number) {
+            push_found(alloc, &mut lines, &surroundings, template)?;
+        }
+    }
+    Ok(lines)
+}
+
+fn push_found(
+    alloc: Global,
+    lines: &mut String,
+    surroundings: &Surroundings,
+    template: &Template,
+) -> Result<(), AllocError> {
+    let mut findings = Vec::new(alloc);
+    add_found(alloc, Around::Kept(surroundings), template, &mut findings)?;
+    for finding in &findings {
+        push_lines(alloc, lines, template.file.as_str(), finding)?;
+    }
+    Ok(())
+}
+
+#[test]
+fn the_same_is_found_by_what_is_kept(rt: HostRuntime) -> Result<(), Fail> {
+    let read = planted(rt.alloc())?;
+    let lines = found_by_kept(rt.alloc(), &read)?;
+    assert_eq!(&rt; lines.as_str(), FOUND);
+    Ok(())
 }
 
 #[test]

@@ -10,6 +10,7 @@ use Rattle.tera_parser.specs.Refusal.{LosesSource, Refuses}
 use Rattle.tera_statements.specs.Known.{grouped_of}
 use Rattle.tera_tree.specs.Outputs.{output_view}
 use Rattle.tera_tree.specs.Tree.{Output}
+use Rattle.tera_check.specs.Bodies.{HasHidden}
 use Rattle.tera_check.specs.Faults.{IsSyntaxError}
 use Rattle.tera_check.specs.Ignores.{AreIgnoresIn}
 use Rattle.tera_check.specs.Mended.{IsMended, text_of}
@@ -32,9 +33,10 @@ pub is_read : (name text : List ℕ) (t : Template) → string_bytes t.file ≡ 
     (λ o. (names : Places) × DerivesNames usual default_marks (text_of text t) (output_view o) names × (t.defined_at.items ≡ map (λ n. n.span) names.components)
     × (grouped_of t.parameters_at ≡ group_all names.parameters nothing_grouped))
     → AreIgnoresIn default_marks text t
+    → HasHidden t
     → IsRead (record { name = name; text = text }) t
-is_read name text t file sound complete fault refusal lost notes unmended mended places ignores =
-    record { file = file; sound = sound; complete = complete; fault = fault; refusal = refusal; lost = lost; notes = notes; unmended = unmended; mended = mended; places = places; ignores = ignores }
+is_read name text t file sound complete fault refusal lost notes unmended mended places ignores hidden =
+    record { file = file; sound = sound; complete = complete; fault = fault; refusal = refusal; lost = lost; notes = notes; unmended = unmended; mended = mended; places = places; ignores = ignores; hidden = hidden }
 
 pub is_anew : (name text : List ℕ) (j : Judged) → j.text ≡ text → IsRead (record { name = name; text = text }) j.template
     → HasNames j.names.items j.template → j.stale ≡ true → reported_of j ≡ [] → IsAnew name text j

@@ -6,6 +6,7 @@ use Rattle.std.specs.List.{flat_map, filter, list_any, AllByRecursion}
 use Rattle.tera_base.specs.Contexts.{found}
 use Rattle.tera_base.specs.Values.{Val}
 use Rattle.tera_base.specs.declared.utils.Span.{Span}
+use Rattle.tera_ast.specs.Tree.{Nodes}
 use Rattle.tera_ast.specs.Tree.{Expr, Const, Array, Map, Var, GetAttr, GetItem, Slice, Filter, Test, Ternary, ListComprehension, ComponentCall, FunctionCall, UnaryOperation, BinaryOperation}
 use Rattle.tera_ast.specs.View.{nodes_of}
 use Rattle.tera_tree.specs.Tree.{Argument, Definition, Output}
@@ -14,7 +15,7 @@ use Rattle.tera_check.specs.Calls.{calls_in_definition, calls_in_nodes, calls_of
 use Rattle.tera_check.specs.Due.{due_among, is_due, is_due_in}
 use Rattle.tera_check.specs.Findings.{NoteVal, FindingVal, FoundAs, kind_name}
 use Rattle.tera_check.specs.Ignores.{IgnoreVal, ignores_view}
-use Rattle.tera_check.specs.Judged.{KnownVal, RemarkVal, taken_by, about, remarked, refused_for, unless_rest, unknown, refusal, counted, refused, refused_one, is_again, refused_findings, missed, missing_findings, missing_in, judged, call_findings, again, defined_again, again_findings}
+use Rattle.tera_check.specs.Judged.{KnownVal, RemarkVal, taken_by, about, remarked, refused_for, unless_rest, unknown, refusal, counted, refused, refused_one, is_again, refused_findings, missed, missing_findings, missing_in, judged, unused_body, unused_bodies, call_findings, again, defined_again, again_findings}
 use Rattle.tera_check.specs.Named.{span_at, taken_in, tree_findings}
 use Rattle.tera_check.specs.Parameters.{parameter_at, unused_in}
 use Rattle.tera_check.specs.Rules.{small_findings}
@@ -151,6 +152,11 @@ module _ (file : List ℕ) (number : ℕ) (k j : KnownVal) (h : AreAlikeBut file
       each_append file (refused_findings k ps) (refused_findings j ps) (missing_in k span ps) (missing_in j span ps)
       (all_refused_but ps) (missing_if (has_whatever ps) (λ n. is_passed n ps) span)
 
+  unused_body_but : (span : Span) (body : Nodes) → AreEachSameBut file (unused_bodies (Some k) span body) (unused_bodies (Some j) span body)
+  unused_body_but span body =
+      subst (λ r. AreEachSameBut file (unused_bodies (Some k) span body) (remarked j span r)) (λ i. unused_body (h.shows_body i) (h.name i) body)
+      (reported_but span (unused_body k.shows_body k.definition.name body))
+
   again_but : (span : Span) → AreSameBut file (again k span) (again j span)
   again_but span = record {
     kind = refl;
@@ -178,6 +184,13 @@ module _ (file : List ℕ) (number : ℕ) where
   judged_any None (Some j) h name span ps = absurd h
   judged_any (Some k) None h name span ps = absurd h
   judged_any (Some k) (Some j) h name span ps = judged_but file number k j h name span ps
+
+  unused_any : (o p : Option KnownVal) → AreAlikeButIfAny file number o p → (span : Span) (body : Nodes)
+      → AreEachSameBut file (unused_bodies o span body) (unused_bodies p span body)
+  unused_any None None h span body = tt
+  unused_any None (Some j) h span body = absurd h
+  unused_any (Some k) None h span body = absurd h
+  unused_any (Some k) (Some j) h span body = unused_body_but file number k j h span body
 
   taken_any : (o p : Option KnownVal) → AreAlikeButIfAny file number o p → (hidden : Bool) (n : List ℕ) → taken_by o hidden n ≡ taken_by p hidden n
   taken_any None None h hidden n = refl
@@ -221,8 +234,10 @@ unused_same file open_text t fs gs h =
 module _ (file : List ℕ) (number : ℕ) (known others : List ℕ → Option KnownVal) where
   call_but : (own : List ℕ) (e : Expr) → AgreeBut (name_called e) file number known others → AreEachSameBut file (call_findings own known e) (call_findings own others e)
   call_but own (ComponentCall name es body closed span) h =
-      each_append file _ _ (judged (known name) name span (passed_by es)) (judged (others name) name span (passed_by es))
-      (each_itself file _) (judged_any file number (known name) (others name) h.0 name span (passed_by es))
+      each_append file _ _ (judged (known name) name span (passed_by es) ++ unused_bodies (known name) span body) (judged (others name) name span (passed_by es) ++ unused_bodies (others name) span body)
+      (each_itself file _)
+      (each_append file (judged (known name) name span (passed_by es)) (judged (others name) name span (passed_by es)) (unused_bodies (known name) span body) (unused_bodies (others name) span body)
+      (judged_any file number (known name) (others name) h.0 name span (passed_by es)) (unused_any file number (known name) (others name) h.0 span body))
   call_but own (Const v span) h = tt
   call_but own (Array es span) h = tt
   call_but own (Map es span) h = tt

@@ -12,14 +12,14 @@ use Rattle.tera_check.specs.Due.{due_findings}
 use Rattle.tera_check.specs.Findings.{finding_view}
 use Rattle.tera_check.specs.Judged.{KnownVal}
 use Rattle.tera_check.specs.Lost.{are_open}
-use Rattle.tera_check.specs.Named.{first_named, defined_in, defined_by, definitions_of, tree_of}
+use Rattle.tera_check.specs.Named.{first_named, defined_in, defined_by, tree_of}
 use Rattle.tera_check.specs.declared.finding.Finding.{Finding}
 use Rattle.tera_check.specs.declared.templates.Template.{Template}
 use Rattle.tera_check.proofs.TakenLemmas.{all_append}
 use Rattle.text_edits.specs.declared.positions.Encoding.{Encoding}
 use Rattle.tera_workspace.specs.Beside.{AreAlikeButIfAny, AgreeBut, IsBeside}
 use Rattle.tera_workspace.specs.Fresh.{IsFound, IsReported}
-use Rattle.tera_workspace.specs.Heads.{definition_named, HaveOneHeadIfAny}
+use Rattle.tera_workspace.specs.Heads.{HaveOneHeadIn}
 use Rattle.tera_workspace.specs.Kept.{name_of, source_of, sources_of, templates_of, reported_of, HasNames, IsWhole, IsCurrent, AreCurrent, is_reported_in, marked}
 use Rattle.tera_workspace.specs.Names.{is_among}
 use Rattle.tera_workspace.specs.Sources.{Source, text_named}
@@ -155,7 +155,7 @@ unmarked false false s h = (refl, refl, h)
 
 module _ (e : Encoding) (touched : List (List ℕ)) (js : List Judged) (i : ℕ) (j d : Judged) (within : i < length js)
     (old : name_of (get_or js i d) ≡ name_of j) (stale : j.stale ≡ true) (whole : AllByRecursion IsWhole js)
-    (heads : (n : List ℕ) → is_among n touched ≡ false → HaveOneHeadIfAny (definition_named n (definitions_of (get_or js i d).template)) (definition_named n (definitions_of j.template))) where
+    (heads : (n : List ℕ) → is_among n touched ≡ false → HaveOneHeadIn n (get_or js i d).template j.template) where
   abbrev after : List Judged
   after = set (map (marked touched (name_of j)) js) i j
 

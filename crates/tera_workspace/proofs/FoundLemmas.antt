@@ -47,7 +47,7 @@ found_if ts us number other t fs h same = record {
 
 alike_itself : (number : ℕ) (o : Option KnownVal) → AreAlikeIfAny number number o o
 alike_itself number None = tt
-alike_itself number (Some k) = record { name = refl; arguments = refl; rest = refl; file = refl; span = refl; own = refl }
+alike_itself number (Some k) = record { name = refl; arguments = refl; rest = refl; file = refl; span = refl; own = refl; shows_body = refl }
 
 module _ (known : List ℕ → Option KnownVal) (ts : List Template) (number : ℕ) (names : List (List ℕ))
     (same : (n : List ℕ) → is_among n names ≡ true → known n ≡ first_named n (defined_by 0 ts)) where

@@ -63,7 +63,7 @@ module _ (number other : ℕ) where
   numbered_alike m l t n at [] own = tt
   numbered_alike m l t n at (d ∷ ds) own =
       if_alike (bytes_eq d.name n) (known_at m t at d) (known_at l t at d) (first_named n (defined_from m t (suc at) ds)) (first_named n (defined_from l t (suc at) ds))
-      (record { name = refl; arguments = refl; rest = refl; file = refl; span = refl; own = own }) (numbered_alike m l t n (suc at) ds own)
+      (record { name = refl; arguments = refl; rest = refl; file = refl; span = refl; own = own; shows_body = refl }) (numbered_alike m l t n (suc at) ds own)
 
   none_first : (m : ℕ) (u : Template) (o : Option Definition) (r : Option KnownVal) → IsFirst m u o r → HaveOneHeadIfAny None o → AreAlikeIfAny number other None r
   none_first m u None None is h = tt

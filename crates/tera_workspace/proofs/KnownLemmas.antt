@@ -1,12 +1,14 @@
 -- What is known under a name where one template is another, whose component of that name has the same head.
-use Rattle.std.proofs.Common.{◌≡◌, ◌∙◌, ◌<◌, ℕ, zero, suc, List, [], ◌∷◌, ◌++◌, length, get_or, set, Bool, true, false, cond, Option, None, Some, string_bytes, refl, sym, ap, subst, inl, inr, arith}
+use Rattle.std.proofs.Common.{◌≡◌, ◌∙◌, ◌<◌, ℕ, zero, suc, List, [], ◌∷◌, ◌++◌, length, get_or, set, Bool, true, false, cond, Option, None, Some, string_bytes, IfSome, refl, sym, ap, subst, inl, inr, arith}
 use Rattle.std.specs.Str.{bytes_eq}
+use Rattle.std.proofs.lemmas.Slice.Eq.{bytes_eq-Decides}
 use Rattle.tera_tree.specs.Tree.{Definition}
+use Rattle.tera_check.specs.Bodies.{shows_in}
 use Rattle.tera_check.specs.Judged.{KnownVal}
 use Rattle.tera_check.specs.Named.{known_at, defined_from, defined_in, defined_by, definitions_of, first_named, or_else}
 use Rattle.tera_check.specs.declared.templates.Template.{Template}
 use Rattle.tera_workspace.specs.Beside.{AreAlikeBut, AreAlikeButIfAny}
-use Rattle.tera_workspace.specs.Heads.{definition_named, HaveOneHeadIfAny}
+use Rattle.tera_workspace.specs.Heads.{definition_named, HaveOneHeadIfAny, HaveOneHeadIn}
 
 or_cond : (b : Bool) (k : KnownVal) (rest more : Option KnownVal) → or_else (cond b (Some k) rest) more ≡ cond b (Some k) (or_else rest more)
 or_cond true k rest more = refl
@@ -33,10 +35,19 @@ first_is number t n at [] = tt
 first_is number t n at (d ∷ ds) =
     first_by number t (bytes_eq d.name n) at d (definition_named n ds) (first_named n (defined_from number t (suc at) ds)) (first_is number t n (suc at) ds)
 
+-- the first of a name has it
+named_by : (n : List ℕ) (d : Definition) (o : Option Definition) (b : Bool) → bytes_eq d.name n ≡ b → IfSome o (λ e. e.name ≡ n) → IfSome (cond b (Some d) o) (λ e. e.name ≡ n)
+named_by n d o true is h = (bytes_eq-Decides d.name n).0 is
+named_by n d o false is h = h
+
+named_first : (n : List ℕ) (ds : List Definition) → IfSome (definition_named n ds) (λ d. d.name ≡ n)
+named_first n [] = tt
+named_first n (d ∷ ds) = named_by n d (definition_named n ds) (bytes_eq d.name n) refl (named_first n ds)
+
 module _ (file : List ℕ) (number : ℕ) where
   alike_itself : (o : Option KnownVal) → AreAlikeButIfAny file number o o
   alike_itself None = tt
-  alike_itself (Some k) = record { name = refl; arguments = refl; rest = refl; same_file = refl; span = inr refl; own = refl }
+  alike_itself (Some k) = record { name = refl; arguments = refl; rest = refl; same_file = refl; span = inr refl; own = refl; shows_body = refl }
 
   or_alike : (a b c d : Option KnownVal) → AreAlikeButIfAny file number a b → AreAlikeButIfAny file number c d → AreAlikeButIfAny file number (or_else a c) (or_else b d)
   or_alike None None c d h g = g
@@ -45,23 +56,26 @@ module _ (file : List ℕ) (number : ℕ) where
   or_alike (Some k) None c d h g = absurd h
 
   module _ (t u : Template) (old : string_bytes t.file ≡ file) (now : string_bytes u.file ≡ file) where
-    heads_alike : (m : ℕ) (o p : Option Definition) (r s : Option KnownVal) → IsFirst m t o r → IsFirst m u p s → HaveOneHeadIfAny o p → AreAlikeButIfAny file number r s
-    heads_alike m None None None None a b h = tt
-    heads_alike m None None None (Some j) a b h = absurd b
-    heads_alike m None None (Some k) s a b h = absurd a
-    heads_alike m None (Some e) r s a b h = absurd h
-    heads_alike m (Some d) None r s a b h = absurd h
-    heads_alike m (Some d) (Some e) None s a b h = absurd a
-    heads_alike m (Some d) (Some e) (Some k) None a b h = absurd b
-    heads_alike m (Some d) (Some e) (Some k) (Some j) (at, is) (bt, js) h =
+    -- of definitions of this name
+    heads_alike : (n : List ℕ) (m : ℕ) (o p : Option Definition) (r s : Option KnownVal) → IfSome o (λ d. d.name ≡ n) → IsFirst m t o r → IsFirst m u p s → HaveOneHeadIfAny o p → shows_in t n ≡ shows_in u n
+        → AreAlikeButIfAny file number r s
+    heads_alike n m None None None None name a b h shows = tt
+    heads_alike n m None None None (Some j) name a b h shows = absurd b
+    heads_alike n m None None (Some k) s name a b h shows = absurd a
+    heads_alike n m None (Some e) r s name a b h shows = absurd h
+    heads_alike n m (Some d) None r s name a b h shows = absurd h
+    heads_alike n m (Some d) (Some e) None s name a b h shows = absurd a
+    heads_alike n m (Some d) (Some e) (Some k) None name a b h shows = absurd b
+    heads_alike n m (Some d) (Some e) (Some k) (Some j) name (at, is) (bt, js) h shows =
+        let both : shows_in t d.name ≡ shows_in u e.name = ap (shows_in t) name ∙ shows ∙ ap (shows_in u) (sym name ∙ h.name) in
         let made : AreAlikeBut file number (known_at m t at d) (known_at m u bt e) =
-        record { name = h.name; arguments = h.arguments; rest = h.rest; same_file = old ∙ sym now; span = inl old; own = refl } in
+        record { name = h.name; arguments = h.arguments; rest = h.rest; same_file = old ∙ sym now; span = inl old; own = refl; shows_body = both } in
         subst (λ x. AreAlikeBut file number x j) (sym is) (subst (λ y. AreAlikeBut file number (known_at m t at d) y) (sym js) made)
 
-    pub template_alike : (n : List ℕ) → HaveOneHeadIfAny (definition_named n (definitions_of t)) (definition_named n (definitions_of u))
+    pub template_alike : (n : List ℕ) → HaveOneHeadIn n t u
         → (m : ℕ) → AreAlikeButIfAny file number (first_named n (defined_in m t)) (first_named n (defined_in m u))
     template_alike n h m =
-        heads_alike m _ _ _ _ (first_is m t n 0 (definitions_of t)) (first_is m u n 0 (definitions_of u)) h
+        heads_alike n m _ _ _ _ (named_first n (definitions_of t)) (first_is m t n 0 (definitions_of t)) (first_is m u n 0 (definitions_of u)) h.0 h.1
 
   -- under a name, by all templates
   pub all_alike : (n : List ℕ) (u d : Template) (from : ℕ) (ts : List Template) (i : ℕ) → i < length ts

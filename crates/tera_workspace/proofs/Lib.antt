@@ -8,6 +8,7 @@ pub mod DefinedLemmas
 pub mod FoundLemmas
 pub mod HeadLemmas
 pub mod InsertLemmas
+pub mod JudgementLemmas
 pub mod KnownLemmas
 pub mod LeftLemmas
 pub mod MarkLemmas

@@ -12,7 +12,7 @@ use Rattle.std.proofs.lemmas.Slice.Eq.{bytes_eq-Decides}
 use Rattle.tera_check.specs.Lost.{are_open}
 use Rattle.tera_check.specs.Named.{definitions_of}
 use Rattle.tera_workspace.specs.Diagnostics.{DiagnosticVal}
-use Rattle.tera_workspace.specs.Heads.{definition_named, HaveOneHeadIfAny}
+use Rattle.tera_workspace.specs.Heads.{definition_named, HaveOneHeadIfAny, HaveOneHeadIn}
 use Rattle.tera_workspace.specs.Kept.{source_of, sources_of, templates_of, reported_of, reported_named, has_name, IsNumbered, IsNewPlace, IsWhole, IsAnew, AllWhole, AreCurrent, StayKept, IsTextAt, marked}
 use Rattle.tera_workspace.specs.Names.{is_among}
 use Rattle.tera_workspace.specs.Sources.{Source, AreInOrder, AreAscending, text_named}
@@ -206,7 +206,7 @@ module _ (name : List ℕ) (j : Judged) (named : string_bytes j.template.file �
 -- ---- another text of one that is among them
 
 module _ (name : List ℕ) (touched : List (List ℕ)) (js : List Judged) (i : ℕ) (j d : Judged) (number : IsNumbered name js i) (anew : IsAnew name j.text j)
-    (heads : (n : List ℕ) → is_among n touched ≡ false → HaveOneHeadIfAny (definition_named n (definitions_of (get_or js i d).template)) (definition_named n (definitions_of j.template))) where
+    (heads : (n : List ℕ) → is_among n touched ≡ false → HaveOneHeadIn n (get_or js i d).template j.template) where
   -- it keeps what was reported
   abbrev pub with_reported : Judged
   with_reported = record j { reported = (get_or js i d).reported }

@@ -1,10 +1,13 @@
 -- Which components have the same heads.
-use Rattle.std.proofs.Common.{◌≡◌, ◌≢◌, ◌∙◌, ◌⊎◌, ◌<◌, ◌≤◌, ◌+◌, ℕ, suc, List, [], ◌∷◌, ◌++◌, ◌||◌, length, drop, get_or, map, Bool, true, false, cond, Option, None, Some, String, string_bytes, refl, sym, ap, subst, inl, inr, arith}
+use Rattle.std.proofs.Common.{◌≡◌, ◌≢◌, ◌∙◌, ◌⊎◌, ◌<◌, ◌≤◌, ◌+◌, ℕ, suc, List, [], ◌∷◌, ◌++◌, ◌||◌, length, drop, get_or, map, Bool, true, false, not, cond, Option, None, Some, String, string_bytes, refl, sym, ap, subst, inl, inr, arith}
 use Rattle.std.proofs.Common.{if◌then◌else◌}
 use Rattle.std.specs.Str.{bytes_eq}
 use Rattle.std.specs.declared.alloc.Global.{Global}
 use Rattle.std.proofs.lemmas.List.{map-append, at_drop_more, at_drop_all}
+use Rattle.std.specs.Cmp.Lexicographic.{slice_cmp}
 use Rattle.std.specs.List.{list_any}
+use Rattle.std.specs.Ordering.{is_eq, nat_cmp}
+use Rattle.std.proofs.lemmas.Map.Text.{is_eq-slice_cmp}
 use Rattle.std.proofs.lemmas.Slice.Eq.{bytes_eq-Decides}
 use Rattle.tera_tree.specs.Tree.{Definition}
 use Rattle.tera_tree.specs.View.{definition_view}
@@ -16,6 +19,12 @@ use Rattle.tera_workspace.proofs.PlaceLemmas.{first_false, second_false, differ}
 
 false_true : false ≡ true → ⊥
 false_true e = cc
+
+pub same_tests : (b c : Bool) → (b ≡ true → c ≡ true) → (c ≡ true → b ≡ true) → not b ≡ not c
+same_tests true true h g = refl
+same_tests true false h g = absurd (false_true (h refl))
+same_tests false true h g = absurd (false_true (g refl))
+same_tests false false h g = refl
 
 -- ---- a pair of definitions more
 
@@ -112,3 +121,79 @@ any_next test names i s b within is has =
 
 pub any_last : (test : List ℕ → Bool) (names : List (String Global)) (i : ℕ) → length names ≤ i → list_any test (map string_bytes (drop i names)) ≡ false
 any_last test names i over = at_drop_all (λ ss. list_any test (map string_bytes ss)) names i over
+
+-- ---- names of a set that are not in another
+
+either : (b rest : Bool) → (if b then true else rest) ≡ true → (b ≡ true) ⊎ (rest ≡ true)
+either true rest h = inl refl
+either false rest h = inr h
+
+among_by : (b c rest among : Bool) → b ≡ c → (rest ≡ true → among ≡ true) → (b || rest) ≡ true → (if c then true else among) ≡ true
+among_by b true rest among same later h = refl
+among_by true false rest among same later h = absurd (false_true (sym same))
+among_by false false rest among same later h = later h
+
+same_either_way : (xs ys : List ℕ) (b c : Bool) → bytes_eq xs ys ≡ b → bytes_eq ys xs ≡ c → b ≡ c
+same_either_way xs ys true true is back = refl
+same_either_way xs ys false false is back = refl
+same_either_way xs ys true false is back = sym ((bytes_eq-Decides ys xs).1 (sym ((bytes_eq-Decides xs ys).0 is))) ∙ back
+same_either_way xs ys false true is back = sym is ∙ (bytes_eq-Decides xs ys).1 (sym ((bytes_eq-Decides ys xs).0 back))
+
+key_test : (n : List ℕ) (k : String Global) → is_eq (slice_cmp nat_cmp n (string_bytes k)) ≡ bytes_eq (string_bytes k) n
+key_test n k = is_eq-slice_cmp n (string_bytes k) ∙ same_either_way n (string_bytes k) _ _ refl refl
+
+-- a set has only its names
+pub key_among : (n : List ℕ) (ks : List (String Global)) → list_any (λ k. is_eq (slice_cmp nat_cmp n (string_bytes k))) ks ≡ true → is_among n (map string_bytes ks) ≡ true
+key_among n [] h = h
+key_among n (k ∷ ks) h = among_by _ (bytes_eq (string_bytes k) n) _ (is_among n (map string_bytes ks)) (key_test n k) (key_among n ks) h
+
+-- A name that is not among those that were added was not before. If the set has it, the other one does too, or it is to
+-- come.
+abbrev pub IsLeft : (touched start left : List (List ℕ)) (has others : List ℕ → Bool) → List ℕ → Type 0
+IsLeft touched start left has others n =
+    is_among n touched ≡ false → (is_among n start ≡ false) × (has n ≡ true → (others n ≡ true) ⊎ (is_among n left ≡ true))
+
+-- one more name, which the other set has, or which is added
+kept_next : (touched start rest : List (List ℕ)) (has others : List ℕ → Bool) (k : List ℕ) → others k ≡ true
+    → ((n : List ℕ) → IsLeft touched start (k ∷ rest) has others n) → (n : List ℕ) → IsLeft touched start rest has others n
+kept_next touched start rest has others k there held n free =
+    let (before, left) = held n free in (
+      before,
+      λ is. elim (left is) [
+        | inl other ↦ inl other
+        | inr among ↦ elim (either (bytes_eq k n) (is_among n rest) among) [
+          | inl same ↦ inl (subst (λ m. others m ≡ true) ((bytes_eq-Decides k n).0 same) there)
+          | inr later ↦ inr later
+        ]
+      ],
+    )
+
+added_next : (touched start rest : List (List ℕ)) (has others : List ℕ → Bool) (k : List ℕ)
+    → ((n : List ℕ) → IsLeft touched start (k ∷ rest) has others n) → (n : List ℕ) → IsLeft (touched ++ k ∷ []) start rest has others n
+added_next touched start rest has others k held n free =
+    let both : (is_among n touched || is_among n (k ∷ [])) ≡ false = sym (among_append n touched (k ∷ [])) ∙ free in
+    let (before, left) = held n (first_false (is_among n touched) (is_among n (k ∷ [])) both) in (
+      before,
+      λ is. elim (left is) [
+        | inl other ↦ inl other
+        | inr among ↦ elim (either (bytes_eq k n) (is_among n rest) among) [
+          | inl same ↦ absurd (false_true (sym (if_true (bytes_eq k n) (second_false (is_among n touched) (is_among n (k ∷ [])) both)) ∙ same))
+          | inr later ↦ inr later
+        ]
+      ],
+    )
+
+pub name_next : (touched now start rest : List (List ℕ)) (has others : List ℕ → Bool) (k : List ℕ) → now ≡ (if others k then touched else touched ++ k ∷ [])
+    → ((n : List ℕ) → IsLeft touched start (k ∷ rest) has others n) → (n : List ℕ) → IsLeft now start rest has others n
+name_next touched now start rest has others k made held = by_test (others k) refl made
+  where
+    by_test : (b : Bool) → others k ≡ b → now ≡ (if b then touched else touched ++ k ∷ []) → (n : List ℕ) → IsLeft now start rest has others n
+    by_test true there is = subst (λ ts. (n : List ℕ) → IsLeft ts start rest has others n) (sym is) (kept_next touched start rest has others k there held)
+    by_test false other is = subst (λ ts. (n : List ℕ) → IsLeft ts start rest has others n) (sym is) (added_next touched start rest has others k held)
+
+-- no name is to come
+pub none_left : (touched start : List (List ℕ)) (has others : List ℕ → Bool) (n : List ℕ) → IsLeft touched start [] has others n
+    → is_among n touched ≡ false → (is_among n start ≡ false) × (has n ≡ true → others n ≡ true)
+none_left touched start has others n held free =
+    let (before, left) = held free in
+    (before, λ is. elim (left is) [ inl other ↦ other | inr never ↦ absurd (false_true never) ])

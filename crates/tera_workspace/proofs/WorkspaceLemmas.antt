@@ -115,6 +115,7 @@ are_read w k none = record {
   components = refl;
   parameters = λ n. refl;
   there = ap (files_by w.documents) (names_are w.judged.items);
+  judgements = λ n j is. is;
 }
 
 -- whether a file is there, by the text that is found

@@ -20,6 +20,7 @@ pub record AreAlikeBut (file : List ℕ) (number : ℕ) (k j : KnownVal) : Type 
   pub same_file : k.file ≡ j.file
   pub span : (k.file ≡ file) ⊎ (k.span ≡ j.span)
   pub own : nat_eq k.template number ≡ nat_eq j.template number
+  pub shows_body : k.shows_body ≡ j.shows_body
 
 -- two such components, or none
 abbrev pub AreAlikeButIfAny : List ℕ → ℕ → Option KnownVal → Option KnownVal → Type 0

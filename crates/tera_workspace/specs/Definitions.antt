@@ -11,8 +11,10 @@ use Rattle.tera_check.specs.declared.templates.Template.{Template}
 use Rattle.tera_workspace.specs.Components.{names_defined, components_by, parameters_by, files_by, components_of, parameters_of_name, files_of}
 use Rattle.tera_workspace.specs.Diagnostics.{position_in}
 use Rattle.tera_workspace.specs.Fresh.{AreTemplates}
+use Rattle.tera_workspace.specs.Judgements.{IsJudgementIfAny, IsJudgementOf}
 use Rattle.tera_workspace.specs.Kept.{sources_of, templates_of}
 use Rattle.tera_workspace.specs.Sources.{Source, AreSources, text_named}
+use Rattle.tera_workspace.specs.declared.judgements.Judgement.{Judgement}
 use Rattle.tera_workspace.specs.declared.queries.Definition.{Definition}
 use Rattle.tera_workspace.specs.declared.queries.FileText.{FileText}
 use Rattle.tera_workspace.specs.declared.workspace.Workspace.{Workspace}
@@ -60,6 +62,7 @@ pub record AreRead (w : Workspace) : Type 0 where
   pub components : components_of w ≡ components_by templates
   pub parameters : (n : List ℕ) → parameters_of_name w n ≡ parameters_by templates n
   pub there : files_of w ≡ files_by w.documents (map (λ s. s.name) sources)
+  pub judgements : (n : List ℕ) (j : Option Judgement) → IsJudgementOf w n j → IsJudgementIfAny sources templates n j
 
 -- ---- what is so of them
 

@@ -11,6 +11,7 @@ use Rattle.tera_parser.specs.Refusal.{LosesSource, Refuses}
 use Rattle.tera_statements.specs.Known.{grouped_of}
 use Rattle.tera_tree.specs.Outputs.{output_view}
 use Rattle.tera_tree.specs.Tree.{Output}
+use Rattle.tera_check.specs.Bodies.{HasHidden}
 use Rattle.tera_check.specs.Faults.{IsSyntaxError}
 use Rattle.tera_check.specs.Due.{due_findings}
 use Rattle.tera_check.specs.FaultFindings.{AreFaultsOf}
@@ -47,6 +48,7 @@ pub record IsRead (s : Source) (t : Template) : Type 0 where
       (λ o. (names : Places) × DerivesNames usual default_marks (text_of s.text t) (output_view o) names × (t.defined_at.items ≡ map (λ n. n.span) names.components)
       × (grouped_of t.parameters_at ≡ group_all names.parameters nothing_grouped))
   pub ignores : AreIgnoresIn default_marks s.text t
+  pub hidden : HasHidden t
 
 -- what is found in the template of a number beside all of these, as `findings_of` gives it: its faults, and what is due
 -- of its tree

@@ -2,6 +2,9 @@
 use Rattle.std.specs.Prelude.{◌≡◌, ℕ, List, [], ◌∷◌, cond, Option, None, Some}
 use Rattle.std.specs.Str.{bytes_eq}
 use Rattle.tera_tree.specs.Tree.{Definition}
+use Rattle.tera_check.specs.Bodies.{shows_in}
+use Rattle.tera_check.specs.Named.{definitions_of}
+use Rattle.tera_check.specs.declared.templates.Template.{Template}
 
 -- the first of a name
 abbrev pub definition_named : List ℕ → List Definition → Option Definition
@@ -19,3 +22,9 @@ abbrev pub HaveOneHeadIfAny : Option Definition → Option Definition → Type 0
 HaveOneHeadIfAny None None = Unit {0}
 HaveOneHeadIfAny (Some d) (Some e) = HaveOneHead d e
 HaveOneHeadIfAny _ _ = ⊥
+
+-- calls of the component of a name are judged alike by both templates: its heads are one, and both may show its body, or
+-- neither does
+abbrev pub HaveOneHeadIn : List ℕ → Template → Template → Type 0
+HaveOneHeadIn n t u =
+    HaveOneHeadIfAny (definition_named n (definitions_of t)) (definition_named n (definitions_of u)) × (shows_in t n ≡ shows_in u n)

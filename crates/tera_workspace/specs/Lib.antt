@@ -4,6 +4,7 @@ pub mod Definitions
 pub mod Diagnostics
 pub mod Fresh
 pub mod Heads
+pub mod Judgements
 pub mod Kept
 pub mod Names
 pub mod Sources

@@ -1,6 +1,6 @@
 //! The components that documents define, by their names.
 
-ghost use Rattle.std.specs.Prelude.{◌≡◌, ℕ, List, true, IfOk, OnOk};
+ghost use Rattle.std.specs.Prelude.{◌≡◌, ◌∷◌, [], ℕ, List, true, IfOk, OnOk};
 ghost use Rattle.std.specs.Option.{option_map};
 ghost use Rattle.tera_check.specs.Judged.{known_view};
 ghost use Rattle.tera_check.specs.Named.{known_in, defined_in, defined_by, first_named, or_else};
@@ -24,6 +24,33 @@ pub(crate) fn first_known<'a>(all: &'a Vec<Judged>, name: &str) -> Option<Known<
         }
     }
     None
+}
+
+/// The components that the documents define, each of the first document that defines one of its name.
+pub(crate) fn catalogue_of(alloc: Global, all: &Vec<Judged>) -> Result<Catalogue<'_>, AllocError>
+    ensures { IfOk result (λ c. (n : List ℕ) →
+        known_in c n ≡ first_named n (defined_by 0 (templates_of all.now.items))) }
+{
+    let mut catalogue = BTreeMap::new(alloc);
+    for (number, judged) in all.iter().enumerate() {
+        add_all(&mut catalogue, number, &judged.template)?;
+    }
+    Ok(catalogue)
+}
+
+// Adds the components that the template defines, unless there is one of the name.
+fn add_all<'a>(
+    catalogue: &mut Catalogue<'a>,
+    number: usize,
+    template: &'a Template,
+) -> Result<(), AllocError>
+    ensures { OnOk result ((n : List ℕ) → known_in catalogue.new n
+        ≡ or_else (known_in catalogue.old n) (first_named n (defined_in number template.now))) }
+{
+    for (at, definition) in definitions_of(template).iter().enumerate() {
+        add(catalogue, known_at(number, template, at, definition))?;
+    }
+    Ok(())
 }
 
 /// The components of these names, each of the first document that defines one.
@@ -53,11 +80,22 @@ fn add_template<'a>(
         ≡ or_else (known_in catalogue.old n) (first_named n (defined_in number template.now))) }
 {
     for (at, definition) in definitions_of(template).iter().enumerate() {
-        let name = definition.name.as_str();
-        if needed.contains(name) && !catalogue.contains_key(name) {
-            let known = known_at(number, template, at, definition);
-            catalogue.insert(definition.name.clone()?, known)?;
+        if needed.contains(definition.name.as_str()) {
+            add(catalogue, known_at(number, template, at, definition))?;
         }
     }
+    Ok(())
+}
+
+// Adds the component, unless there is one of its name.
+fn add<'a>(catalogue: &mut Catalogue<'a>, known: Known<'a>) -> Result<(), AllocError>
+    ensures { OnOk result ((n : List ℕ) → known_in catalogue.new n
+        ≡ or_else (known_in catalogue.old n) (first_named n (known_view known.entry ∷ []))) }
+{
+    let name = known.definition.name.as_str();
+    if catalogue.contains_key(name) {
+        return Ok(());
+    }
+    catalogue.insert(known.definition.name.clone()?, known)?;
     Ok(())
 }

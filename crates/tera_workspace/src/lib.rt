@@ -4,16 +4,17 @@
 //! `text_edits` in place of spans. After an edit the document is read again, unless it has the text that was checked.
 //! Checked again are the document, the documents that name a component that may be another one now, and those that have
 //! a finding with a place in it. It also has the components and the files that there are, the parameters of a
-//! component, where it is defined, and the texts that were read.
+//! component, where it is defined, the texts that were read, and what is found in one document.
 //!
 //! In the order of reading: specs `Sources`, `Diagnostics`, `Fresh`, `Workspaces`; `lined_text` and `diagnostics`;
 //! `judged`, a document as it was judged; `reading`, and `touched`, what a new text changes for others; `catalogue`;
-//! `news`; specs `Components` and `Definitions`; `workspace`; `queries`.
+//! `news`; specs `Components`, `Judgements` and `Definitions`; `workspace`; `queries`; `judgements`.
 #![tactic(auto)]
 
 mod catalogue;
 mod diagnostics;
 mod judged;
+mod judgements;
 pub mod laws;
 mod lined_text;
 mod news;
@@ -23,5 +24,6 @@ mod touched;
 mod workspace;
 
 pub use diagnostics::{Diagnostic, Related};
+pub use judgements::Judgement;
 pub use queries::{Definition, FileText};
 pub use workspace::Workspace;

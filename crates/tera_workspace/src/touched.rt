@@ -1,26 +1,39 @@
 //! What a new text of a document changes for others.
 
-ghost use Rattle.std.specs.Prelude.{◌≡◌, ◌||◌, ℕ, List, true, false, IfOk, OnOk, map, string_bytes, length};
+ghost use Rattle.std.specs.Prelude.{◌≡◌, ◌∷◌, [], ◌++◌, ◌||◌, ℕ, List, true, false, IfOk, OnOk, if◌then◌else◌, map, string_bytes, length};
+ghost use Rattle.std.specs.BTreeSet.{contains_text};
 ghost use Rattle.std.specs.List.{list_any};
 ghost use Rattle.tera_tree.specs.View.{definition_view};
 ghost use Rattle.tera_check.specs.Lost.{are_open};
 ghost use Rattle.tera_check.specs.Named.{definitions_of};
-ghost use Rattle.tera_workspace.specs.Heads.{definition_named, HaveOneHead, HaveOneHeadIfAny};
+ghost use Rattle.tera_workspace.specs.Heads.{definition_named, HaveOneHead, HaveOneHeadIfAny, HaveOneHeadIn};
 ghost use Rattle.tera_workspace.specs.Kept.{is_reported_in, made_stale, marked, marked_if, templates_of};
 ghost use Rattle.tera_workspace.specs.Names.{is_among};
 
 use crate::judged::{Judged, are_open, push_defined};
 use std::alloc::{AllocError, Global};
+use std::collections::BTreeSet;
 use tera_check::{Template, definitions_of};
 use tera_parser::ast::ComponentDefinition;
 
-/// The names of at least those components that are others in the second template than in the first: that come, go, or
-/// have other parameters.
+/// The names of at least those components that are others in the second template than in the first: that come, go, have
+/// other parameters, or show their body in one of them only.
 pub(crate) fn touched_names(
     alloc: Global,
     old: &Template,
     new: &Template,
 ) -> Result<Vec<String>, AllocError>
+    ensures { IfOk result (λ v. (n : List ℕ) → is_among n (map string_bytes v.items) ≡ false →
+        HaveOneHeadIn n old.now new.now) }
+{
+    let mut touched = touched_heads(alloc, old, new)?;
+    push_not_in(&mut touched, &old.bodies_hidden, &new.bodies_hidden)?;
+    push_not_in(&mut touched, &new.bodies_hidden, &old.bodies_hidden)?;
+    Ok(touched)
+}
+
+// The names of at least those whose heads are others.
+fn touched_heads(alloc: Global, old: &Template, new: &Template) -> Result<Vec<String>, AllocError>
     ensures { IfOk result (λ v. (n : List ℕ) → is_among n (map string_bytes v.items) ≡ false →
         HaveOneHeadIfAny (definition_named n (definitions_of old.now))
         (definition_named n (definitions_of new.now))) }
@@ -55,6 +68,39 @@ fn push_others(
             touched.push(other.name.clone()?)?;
         }
     }
+    Ok(())
+}
+
+// Adds those of the names that are not among the others.
+fn push_not_in(
+    touched: &mut Vec<String>,
+    names: &BTreeSet<String>,
+    others: &BTreeSet<String>,
+) -> Result<(), AllocError>
+    ensures { OnOk result ((n : List ℕ) → is_among n (map string_bytes touched.new.items) ≡ false →
+        (is_among n (map string_bytes touched.old.items) ≡ false)
+        × (contains_text names.now n ≡ true → contains_text others.now n ≡ true)) }
+{
+    for name in names {
+        push_if_not_in(touched, name, others)?;
+    }
+    Ok(())
+}
+
+fn push_if_not_in(
+    touched: &mut Vec<String>,
+    name: &String,
+    others: &BTreeSet<String>,
+) -> Result<(), AllocError>
+    ensures { let old = map string_bytes touched.old.items in
+        OnOk result (map string_bytes touched.new.items
+        ≡ (if contains_text others.now (string_bytes name.now) then old
+        else old ++ (string_bytes name.now ∷ []))) }
+{
+    if others.contains(name.as_str()) {
+        return Ok(());
+    }
+    touched.push(name.clone()?)?;
     Ok(())
 }
 

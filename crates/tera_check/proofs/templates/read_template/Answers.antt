@@ -3,6 +3,8 @@ use Rattle.tera_grammar.specs.Limits.{usual}
 use Rattle.tera_grammar.specs.statements.Top.{Derives}
 use Rattle.tera_lexer.specs.grammar.Marks.{default_marks}
 use Rattle.tera_tree.specs.Outputs.{output_view}
+use Rattle.std.specs.BTreeSet.{contains_text}
+use Rattle.tera_check.specs.Bodies.{is_hidden_by}
 use Rattle.tera_check.specs.Ignores.{AreIgnoresBy, AreIgnoresIn, AreIgnoresOfMended, ignores_view}
 use Rattle.tera_check.specs.declared.templates.Template.{Template}
 use Rattle.tera_check.proofs.ReadLemmas.{both_ok, fault_ignores}
@@ -22,6 +24,12 @@ returns-in_ok-parent_at-in-Ok-clause-ignores c =
     subst (λ m. AreIgnoresIn m c.args.source.now read) c.default.ensures.0 c.in_ok-name.ensures.ignores in
     let same : read.parsed ≡ Ok c.in-Ok.output = search rules in
     subst (λ r. AreIgnoresBy default_marks c.args.source.now r read.mended (ignores_view read.ignores.items)) same here
+
+pub returns-in_ok-parent_at-in-Ok-clause-hidden : goal.returns-in_ok-parent_at-in-Ok-clause-hidden
+returns-in_ok-parent_at-in-Ok-clause-hidden c = λ n.
+    let read = c.in_ok-name.field-0 in
+    let same : read.parsed ≡ Ok c.in-Ok.output = search rules in
+    subst (λ r. contains_text read.bodies_hidden n ≡ is_hidden_by r n) same (c.in_ok-name.ensures.hidden n)
 
 pub returns-in-Err-clause-ignores : goal.returns-in-Err-clause-ignores
 returns-in-Err-clause-ignores c =

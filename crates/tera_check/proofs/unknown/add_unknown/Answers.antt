@@ -1,15 +1,15 @@
 use Rattle.std.proofs.Common.{◌≡◌, arith, subst}
 use Rattle.tera_check.specs.Registered.{registered_view}
-use Rattle.tera_check.specs.Unknown.{AreWithUnknown}
-use Rattle.tera_check.proofs.UnknownLemmas.{added_more, none_yet}
+use Rattle.tera_check.specs.Unknown.{AreWithUnknown, due_unknown}
+use Rattle.tera_check.proofs.AddedLemmas.{added_more, none_yet}
 use Rattle.tera_check.proofs.unknown.add_unknown.Goals as goal
 
 pub loop-number-init : goal.loop-number-init
-loop-number-init c = none_yet (registered_view c.args.registered.now) c.args.templates.now.items c.args.all.now.items
+loop-number-init c = none_yet (due_unknown (registered_view c.args.registered.now)) c.args.templates.now.items c.args.all.now.items
 
 pub loop-number-preserved : goal.loop-number-preserved
 loop-number-preserved c =
-    added_more (registered_view c.args.registered.now) c.args.templates.now.items c.loop-number.number c.args.all.now.items c.loop-number.all.items
+    added_more (due_unknown (registered_view c.args.registered.now)) c.args.templates.now.items c.loop-number.number c.args.all.now.items c.loop-number.all.items
     c.add_at.new.all.items c.loop-number.invariant c.in_ok-add_at.ensures
 
 pub returns : goal.returns

@@ -13,5 +13,5 @@ returns-clause-report g c =
     let job = c.args.job.now in
     let same : source_of c.in_ok-sources.sources ≡ with_sources nothing all.sources.items =
     same_answers (source_of c.in_ok-sources.sources) (with_sources nothing all.sources.items) c.in_ok-sources.ensures in
-    subst (λ known. IfOk c.write_findings.result (IsReported job.form c.args.style known (map unreadable_view all.unread.items) all.templates.items all.names (registered_if_any c.args.registered) all.checked
-    (level_of job.rules) (g.W.Write.contents c.args.writer.now) (g.W.Write.contents c.write_findings.new.writer))) same c.write_findings.ensures.report
+    subst (λ known. IfOk c.write_findings.result (IsReported job.form c.args.style known (map unreadable_view all.unread.items) all.templates.items all.sources.items all.names (registered_if_any c.args.registered) all.checked
+    (level_of job.rules) (g.W.Write.contents c.args.writer.now) (g.W.Write.contents c.write_findings.new.writer))) same (rw c.as_slice.ensures.value at c.write_findings.ensures.report)

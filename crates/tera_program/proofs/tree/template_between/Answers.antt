@@ -27,6 +27,7 @@ returns c =
         lost = subst (λ source. IfErr template.parsed (LosesSource usual m source)) text c.in_ok-template.ensures.lost;
         mended = subst (λ (o : Option Mended). IfSome o (IsMended (string_bytes c.args.source.now.file) (string_bytes c.args.source.now.text) 100)) (sym alone) tt;
         ignores = subst (λ source. AreIgnoresIn m source template) text c.in_ok-template.ensures.ignores;
+        hidden = c.in_ok-template.ensures.hidden;
       };
       clean = λ output d. c.in_ok-template.ensures.complete output (rw text d);
       tree = if_any _ _ _ (tree_of template)

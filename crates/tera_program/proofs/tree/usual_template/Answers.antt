@@ -25,6 +25,7 @@ returns c =
         mended = subst (λ name. IfSome template.mended (IsMended name (string_bytes c.args.source.now.text) 100)) file
             (subst (λ source. IfSome template.mended (IsMended c.as_str-file.result.now source 100)) text c.in_ok-template.ensures.mended);
         ignores = subst (λ source. AreIgnoresIn default_marks source template) text c.in_ok-template.ensures.ignores;
+        hidden = c.in_ok-template.ensures.hidden;
       };
       clean = λ output d. c.in_ok-template.ensures.complete output (rw text d);
       tree = if_any _ _ _ (tree_of template)

@@ -3,6 +3,7 @@ use Rattle.json.specs.Json.{null}
 use Rattle.text_edits.specs.Lines.{lines_of}
 use Rattle.text_edits.specs.Positions.{byte_of}
 use Rattle.text_edits.specs.declared.positions.Position.{Position}
+use Rattle.tera_outline.specs.Bound.{bound_of}
 use Rattle.tera_outline.specs.Completions.{completion_at, slot_of}
 use Rattle.tera_outline.specs.Names.{names_of}
 use Rattle.tera_outline.specs.Pieces.{part_of}
@@ -10,6 +11,7 @@ use Rattle.tera_outline.specs.declared.pieces.Piece.{Piece}
 use Rattle.json.specs.Tree.{json_tokens}
 use Rattle.tera_server.specs.Completions.{completion_json, items_json, kind_number, offered}
 use Rattle.tera_server.specs.Positions.{position_at}
+use Rattle.tera_server.specs.Settings.{registered_view}
 use Rattle.tera_server.proofs.CompletionLemmas.{reported}
 use Rattle.tera_server.proofs.Tails.{and_so}
 use Rattle.tera_server.proofs.completions.put_completion.Goals as goal
@@ -19,6 +21,7 @@ returns-clause-tokens c =
     let e = c.args.encoding in
     let w = c.args.offering.workspace.now in
     let folders = map string_bytes c.args.offering.folders.now.items in
+    let r = registered_view c.args.registered in
     let text = c.args.text.now in
     let parts = map part_of c.in_ok-pieces.pieces.items in
     let byte = c.byte_at-byte.result in
@@ -26,7 +29,7 @@ returns-clause-tokens c =
     sym c.in-None.is ∙ rw c.as_slice.ensures.value at c.completion_for.ensures in
     and_so c.null.result c.null.ensures.ok (λ written. (
       null,
-      (parts, c.in_ok-pieces.ensures, reported e w folders text parts byte (byte_of e (lines_of text) c.args.position) (length text) None given refl c.byte_at-byte.ensures.byte),
+      (parts, c.in_ok-pieces.ensures, reported e w folders r text parts byte (byte_of e (lines_of text) c.args.position) (length text) None given refl c.byte_at-byte.ensures.byte),
       written,
     ))
 
@@ -35,6 +38,7 @@ returns-in-Some-clause-tokens c =
     let e = c.args.encoding in
     let w = c.args.offering.workspace.now in
     let folders = map string_bytes c.args.offering.folders.now.items in
+    let r = registered_view c.args.registered in
     let text = c.args.text.now in
     let parts = map part_of c.in_ok-pieces.pieces.items in
     let byte = c.byte_at-byte.result in
@@ -44,12 +48,12 @@ returns-in-Some-clause-tokens c =
     let old = c.args.out.now.tokens in
     let kind = kind_number one.kind in
     let start = position_at e text one.start in
-    let names = offered w folders (names_of (map part_of c.as_slice-in-Some.result.now)) one.kind in
+    let names = offered w folders r (names_of (map part_of c.as_slice-in-Some.result.now)) (bound_of (map part_of c.as_slice-in-Some.result.now)) one.kind in
     and_so c.put_offered.result c.put_offered.ensures.tokens (λ written. (
-      completion_json e w folders text (names_of parts) byte (Some one),
-      (parts, c.in_ok-pieces.ensures, reported e w folders text parts byte (byte_of e (lines_of text) c.args.position) (length text) (Some one) given refl c.byte_at-byte.ensures.byte),
+      completion_json e w folders r text (names_of parts) (bound_of parts) byte (Some one),
+      (parts, c.in_ok-pieces.ensures, reported e w folders r text parts byte (byte_of e (lines_of text) c.args.position) (length text) (Some one) given refl c.byte_at-byte.ensures.byte),
       written
           ∙ ap (λ (p : Position). old ++ json_tokens (items_json p c.position_at-in-Some.result kind names)) c.position_at.ensures
           ∙ ap (λ (p : Position). old ++ json_tokens (items_json start p kind names)) c.position_at-in-Some.ensures
-          ∙ ap (λ (ps : List Piece). old ++ json_tokens (items_json start (position_at e text byte) kind (offered w folders (names_of (map part_of ps)) one.kind))) c.as_slice-in-Some.ensures.value,
+          ∙ ap (λ (ps : List Piece). old ++ json_tokens (items_json start (position_at e text byte) kind (offered w folders r (names_of (map part_of ps)) (bound_of (map part_of ps)) one.kind))) c.as_slice-in-Some.ensures.value,
     ))

@@ -1,9 +1,9 @@
-use Rattle.std.proofs.Common.{◌≡◌, ◌∙◌, ◌++◌, filter, map, string_bytes, refl, sym, ap, append_assoc}
+use Rattle.std.proofs.Common.{◌≡◌, ◌∙◌, ◌++◌, map, string_bytes, refl, sym, ap, append_assoc}
 use Rattle.std.specs.List.{flat_map}
 use Rattle.tera_workspace.specs.Diagnostics.{diagnostic_view}
 use Rattle.tera_workspace.proofs.LeftLemmas.{left_last}
 use Rattle.tera_server.specs.Findings.{found_if_on, one_found}
-use Rattle.tera_server.specs.Settings.{is_shown, reported_for, reported_view}
+use Rattle.tera_server.specs.Settings.{reported_for, reported_view, shown_in}
 use Rattle.tera_server.specs.UnreadFiles.{why_of}
 use Rattle.tera_server.proofs.FindingLemmas.{found_tokens, found_written, on_written}
 use Rattle.tera_server.proofs.Tails.{and_so}
@@ -17,7 +17,7 @@ returns c =
     let why = why_of c.args.publishing.unread.now name in
     let shown = reported_for c.args.publishing.settings.now (map string_bytes c.args.publishing.folders.now) name in
     let all = map diagnostic_view c.args.found.now in
-    let ds = filter (is_shown shown) all in
+    let ds = shown_in shown all in
     let old = c.args.out.now.tokens in
     let given : c.loop-diagnostic.out.tokens ≡ c.put_reason.new.out.tokens ++ flat_map (found_if_on e reported (reported_view c.reported-reported.result)) all =
     left_last (λ ds. flat_map (found_if_on e reported (reported_view c.reported-reported.result)) (map diagnostic_view ds)) _ c.loop-diagnostic.out.tokens c.args.found.now c.loop-diagnostic.diagnostic-index c.loop-diagnostic-test.false refl c.loop-diagnostic.invariant.tokens in

@@ -1,7 +1,6 @@
 use Rattle.std.proofs.Common.{◌≡◌, ◌∙◌, ℕ, List, false, map, get_or, string_bytes, sym, subst}
 use Rattle.tera_check.specs.Lost.{are_open}
-use Rattle.tera_check.specs.Named.{definitions_of}
-use Rattle.tera_workspace.specs.Heads.{definition_named, HaveOneHeadIfAny}
+use Rattle.tera_workspace.specs.Heads.{HaveOneHeadIn}
 use Rattle.tera_workspace.specs.Kept.{StayKept, IsTextAt, marked_if, templates_of}
 use Rattle.tera_workspace.specs.Names.{is_among}
 use Rattle.tera_workspace.specs.declared.judged.Judged.{Judged}
@@ -17,8 +16,8 @@ returns-clause-kept c =
     let d = c.index.result.now in
     let touched = map string_bytes c.in_ok-touched.touched.items in
     let heads : (n : List ℕ) → is_among n touched ≡ false
-    → HaveOneHeadIfAny (definition_named n (definitions_of (get_or js c.args.number d).template)) (definition_named n (definitions_of j.template)) =
-    subst (λ (x : Judged). (n : List ℕ) → is_among n touched ≡ false → HaveOneHeadIfAny (definition_named n (definitions_of x.template)) (definition_named n (definitions_of j.template)))
+    → HaveOneHeadIn n (get_or js c.args.number d).template j.template =
+    subst (λ (x : Judged). (n : List ℕ) → is_among n touched ≡ false → HaveOneHeadIn n x.template j.template)
     c.index.ensures c.in_ok-touched.ensures in
     let put = put_is name touched js c.args.number j d c.requires.number c.requires.anew heads c.mark.new.all.items c.index_mut.result.now
     (record c.index_mut.result.now { reported = c.swap.new.y }) c.swap.new.x c.mark.ensures c.index_mut.ensures.value c.swap.ensures.x_after in
@@ -34,8 +33,8 @@ returns-clause-read c =
     let d = c.index.result.now in
     let touched = map string_bytes c.in_ok-touched.touched.items in
     let heads : (n : List ℕ) → is_among n touched ≡ false
-    → HaveOneHeadIfAny (definition_named n (definitions_of (get_or js c.args.number d).template)) (definition_named n (definitions_of j.template)) =
-    subst (λ (x : Judged). (n : List ℕ) → is_among n touched ≡ false → HaveOneHeadIfAny (definition_named n (definitions_of x.template)) (definition_named n (definitions_of j.template)))
+    → HaveOneHeadIn n (get_or js c.args.number d).template j.template =
+    subst (λ (x : Judged). (n : List ℕ) → is_among n touched ≡ false → HaveOneHeadIn n x.template j.template)
     c.index.ensures c.in_ok-touched.ensures in
     let put = put_is name touched js c.args.number j d c.requires.number c.requires.anew heads c.mark.new.all.items c.index_mut.result.now
     (record c.index_mut.result.now { reported = c.swap.new.y }) c.swap.new.x c.mark.ensures c.index_mut.ensures.value c.swap.ensures.x_after in

@@ -1,0 +1,89 @@
+//! What is suggested for what is found, where a form has it.
+
+ghost use Rattle.std.specs.Prelude.{◌≡◌, IfOk, map};
+ghost use Rattle.std.specs.Option.{option_map};
+ghost use Rattle.tera_check.specs.Named.{known_in};
+ghost use Rattle.tera_program.specs.Helps.{AreHelps, AreHelpsIn, IsHelpOf, help_in};
+
+use crate::job::Form;
+use std::alloc::{AllocError, Global};
+use tera_check::{Catalogue, Found, Template, catalogue_of};
+use tera_files::Source;
+use tera_fixes::{Suggestion, suggestions_in};
+
+/// Of each template what is suggested for each of its findings.
+pub(crate) type Helps = Vec<Vec<Option<Suggestion>>>;
+
+/// What is suggested for what is found in the templates, if the form has it. Without its source nothing is suggested for a
+/// template.
+pub(crate) fn helps_for(
+    alloc: Global,
+    form: Form,
+    templates: &Vec<Template>,
+    sources: &[Source],
+    all: &[Found<'_>],
+) -> Result<Helps, AllocError>
+    ensures { IfOk result (λ helps.
+        AreHelps form templates.now.items sources.now all.now helps.items) }
+{
+    match form {
+        Form::Full => helps_of(alloc, templates, sources, all),
+        Form::Concise | Form::Json | Form::Github | Form::Sarif => Ok(Vec::new(alloc)),
+    }
+}
+
+fn helps_of(
+    alloc: Global,
+    templates: &Vec<Template>,
+    sources: &[Source],
+    all: &[Found<'_>],
+) -> Result<Helps, AllocError>
+    ensures { IfOk result (λ helps.
+        AreHelpsIn templates.now.items sources.now all.now helps.items) }
+{
+    let catalogue = catalogue_of(alloc, templates)?;
+    let mut helps = Vec::new(alloc);
+    for (number, found) in all.iter().enumerate() {
+        let help = help_of(
+            alloc,
+            &catalogue,
+            templates.get(number),
+            sources.get(number),
+            found,
+        )?;
+        helps.push(help)?;
+    }
+    Ok(helps)
+}
+
+// What is suggested for the findings in one template.
+fn help_of(
+    alloc: Global,
+    catalogue: &Catalogue<'_>,
+    template: Option<&Template>,
+    source: Option<&Source>,
+    found: &Found<'_>,
+) -> Result<Vec<Option<Suggestion>>, AllocError>
+    ensures { IfOk result (IsHelpOf catalogue.now (option_map (λ t. t.now) template.entry)
+        (option_map (λ s. s.now) source.entry) found.now) }
+{
+    let (Some(template), Some(source)) = (template, source) else {
+        return Ok(Vec::new(alloc));
+    };
+    let mut findings = Vec::new(alloc);
+    for finding in &found.findings {
+        findings.push(finding)?;
+    }
+    let text = source.text.as_str();
+    suggestions_in(alloc, catalogue, template, text, findings.as_slice())
+}
+
+/// The title of what is suggested for the finding of a number in the template of a number.
+pub(crate) fn help_at(helps: &[Vec<Option<Suggestion>>], number: usize, at: usize) -> Option<&str>
+    ensures { option_map (λ t. t.now) result ≡ help_in helps.now number at }
+{
+    match helps.get(number)?.get(at)? {
+        Some(suggestion) => Some(suggestion.title.as_str()),
+        None => None,
+    }
+}
