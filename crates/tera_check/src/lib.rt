@@ -74,5 +74,5 @@ pub use spans::first_span;
 pub use templates::{
     Template, definitions_of, is_open, read_template, read_template_between, tree_of,
 };
-pub use unknown::add_unknown;
+pub use unknown::{add_unknown, unknown_found};
 pub use unused_components::add_unused_components;

@@ -77,9 +77,9 @@ fn add_to(
     found.add(unknown_found(alloc, registered, template)?)
 }
 
-// The filters, tests and functions in the template that the program does not have. Nothing is found that comes of what
-// was written for a fault.
-fn unknown_found(
+/// The filters, tests and functions in the template that the program does not have. Nothing is found that comes of what
+/// was written for a fault.
+pub fn unknown_found(
     alloc: Global,
     registered: &Registered<'_>,
     template: &Template,
