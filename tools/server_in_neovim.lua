@@ -158,6 +158,10 @@ must("hover shows the head of the definition", type(hover) == "table" and type(h
   and hover.contents.value == "ui.box(size: string = 'l')", hover)
 hover = ask(page, "textDocument/hover", at(page, 0, 15))
 must("hover shows nothing for a template", hover == nil or hover == vim.NIL, hover)
+local help = ask(page, "textDocument/signatureHelp", at(page, 2, 14))
+must("the call shows which parameter its argument is for", type(help) == "table" and help.activeParameter == 0
+  and help.signatures[1].label == "ui.box(size: string = 'l')"
+  and vim.deep_equal(help.signatures[1].parameters[1].label, { 7, 11 }), help)
 local function references(buffer, line, character, declared)
   local params = at(buffer, line, character)
   params.context = { includeDeclaration = declared }

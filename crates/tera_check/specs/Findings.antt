@@ -1,5 +1,5 @@
 -- Findings.
-use Rattle.std.specs.Prelude.{Option, None, Some, if◌then◌else◌, ◌≡◌, ◌+◌, ◌-◌, ◌^◌, ℕ, List, [], ◌∷◌, ◌++◌, map, codes, string_bytes, min}
+use Rattle.std.specs.Prelude.{Bool, true, false, Option, None, Some, if◌then◌else◌, ◌≡◌, ◌+◌, ◌-◌, ◌^◌, ℕ, List, [], ◌∷◌, ◌++◌, map, codes, string_bytes, min}
 use Rattle.std.specs.Str.{bytes_eq}
 use Rattle.tera_base.specs.ErrorView.{ErrorVal, NoMemory, Saying, Reporting, ReportVal, ReportOf}
 use Rattle.tera_base.specs.ErrorView as errors
@@ -80,6 +80,25 @@ severity_of _ = severities.Error
 abbrev pub default_level : Kind → Option Severity
 default_level kinds.UnusedComponent = None
 default_level kind = Some (severity_of kind)
+
+-- findings of the kind depend on what other files define or call, on the names of templates or on what a program
+-- registers, which may not be known
+abbrev pub depends_on_others : Kind → Bool
+depends_on_others kinds.UnusedComponent = true
+depends_on_others kinds.UnusedBody = true
+depends_on_others kinds.DefinedAgain = true
+depends_on_others kinds.MissingArgument = true
+depends_on_others kinds.UnknownArgument = true
+depends_on_others kinds.WrongType = true
+depends_on_others kinds.MissingTemplate = true
+depends_on_others kinds.CircularExtends = true
+depends_on_others kinds.CircularInclude = true
+depends_on_others kinds.UndefinedBlock = true
+depends_on_others kinds.SuperWithoutParent = true
+depends_on_others kinds.UnknownFilter = true
+depends_on_others kinds.UnknownTest = true
+depends_on_others kinds.UnknownFunction = true
+depends_on_others _ = false
 
 -- the word for a severity
 abbrev pub severity_name : Severity → List ℕ

@@ -29,8 +29,5 @@ pub mod Rules
 pub mod Scopes
 pub mod Silenced
 pub mod Unknown
-pub mod UnknownFilters
-pub mod UnknownFunctions
-pub mod UnknownTests
 pub mod UnusedComponents
 pub mod Within

@@ -1,5 +1,5 @@
 -- The names that a program registers for its templates.
-use Rattle.std.specs.Prelude.{◌≡◌, ℕ, List, Bool, true, Option, None, Some, String, bytes_eq, map, option_map, string_bytes}
+use Rattle.std.specs.Prelude.{◌≡◌, ◌||◌, ℕ, List, Bool, true, Option, None, Some, String, bytes_eq, codes, map, option_map, string_bytes}
 use Rattle.std.specs.BTreeSet.{BTreeSet, contains_by}
 use Rattle.std.specs.Borrow.{Bor}
 use Rattle.std.specs.Cmp.Lexicographic.{slice_cmp}
@@ -7,12 +7,20 @@ use Rattle.std.specs.List.{list_any}
 use Rattle.std.specs.Ordering.{nat_cmp}
 use Rattle.std.specs.declared.alloc.Global.{Global}
 use Rattle.tera_check.specs.declared.registered.Registered.{Registered}
+use Rattle.tera_check.specs.declared.registered.Registry.{Registry}
+use Rattle.tera_check.specs.declared.registered.Registry.TheVariants as registries
 
 -- which filters, tests and functions there may be
 pub record RegisteredVal : Type 0 where
   pub filters : List ℕ → Bool
   pub tests : List ℕ → Bool
   pub functions : List ℕ → Bool
+
+-- there may be one of the name; `super` is a function of every program
+abbrev pub has : RegisteredVal → Registry → List ℕ → Bool
+has r registries.Filters n = r.filters n
+has r registries.Tests n = r.tests n
+has r registries.Functions n = r.functions n || bytes_eq n (codes "super")
 
 -- by lists: those that are listed; where a list is absent, any
 abbrev pub is_listed : Option (List (List ℕ)) → List ℕ → Bool

@@ -6,7 +6,7 @@ use Rattle.std.specs.BTreeSet.{BTreeSet}
 use Rattle.std.specs.List.{Contains, filter, find, list_any}
 use Rattle.std.specs.Option.{is_some, option_map_or}
 use Rattle.std.specs.Str.{bytes_eq}
-use Rattle.tera_check.specs.Findings.{FindingVal, FindingOf, FoundAs, all_kinds, kind_name}
+use Rattle.tera_check.specs.Findings.{FindingVal, FindingOf, FoundAs, all_kinds, depends_on_others, kind_name}
 use Rattle.tera_check.specs.Ignores.{IgnoreVal, ignores_view}
 use Rattle.tera_check.specs.Lost.{places_under}
 use Rattle.tera_check.specs.declared.finding.Kind.{Kind}
@@ -40,25 +40,6 @@ is_silenced t f = list_any (λ i. silences i f) (ignores_view t.ignores.items)
 -- the kind whose word is the rule
 abbrev pub kind_named : List ℕ → Option Kind
 kind_named rule = find (λ kind. bytes_eq (kind_name kind) rule) all_kinds
-
--- findings of the kind depend on what other files define or call, on the names of templates or on what a program
--- registers, which may not be known
-abbrev pub depends_on_others : Kind → Bool
-depends_on_others kinds.UnusedComponent = true
-depends_on_others kinds.UnusedBody = true
-depends_on_others kinds.DefinedAgain = true
-depends_on_others kinds.MissingArgument = true
-depends_on_others kinds.UnknownArgument = true
-depends_on_others kinds.WrongType = true
-depends_on_others kinds.MissingTemplate = true
-depends_on_others kinds.CircularExtends = true
-depends_on_others kinds.CircularInclude = true
-depends_on_others kinds.UndefinedBlock = true
-depends_on_others kinds.SuperWithoutParent = true
-depends_on_others kinds.UnknownFilter = true
-depends_on_others kinds.UnknownTest = true
-depends_on_others kinds.UnknownFunction = true
-depends_on_others _ = false
 
 abbrev pub is_undefined_kind : Kind → Bool
 is_undefined_kind kinds.UndefinedComponent = true

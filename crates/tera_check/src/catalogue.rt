@@ -40,13 +40,13 @@ pub fn catalogue_of<'a>(
 {
     let mut catalogue = BTreeMap::new(alloc);
     for (number, template) in templates.iter().enumerate() {
-        add_template(alloc, &mut catalogue, number, template)?;
+        add_definitions(&mut catalogue, number, template)?;
     }
     Ok(catalogue)
 }
 
-fn add_template<'a>(
-    alloc: Global,
+/// Adds the components that the template of this number defines, except those whose names the catalogue has.
+pub fn add_definitions<'a>(
     catalogue: &mut Catalogue<'a>,
     number: usize,
     template: &'a Template,
@@ -56,7 +56,7 @@ fn add_template<'a>(
 {
     for (at, definition) in definitions_of(template).iter().enumerate() {
         let known = known_at(number, template, at, definition);
-        add(alloc, catalogue, known)?;
+        add_known(catalogue, known)?;
     }
     Ok(())
 }
@@ -81,8 +81,8 @@ pub fn known_at<'a>(
     }
 }
 
-// Adds the component, unless there is one of its name.
-fn add<'a>(alloc: Global, catalogue: &mut Catalogue<'a>, known: Known<'a>) -> Result<(), AllocError>
+/// Adds the component, unless there is one of its name.
+pub fn add_known<'a>(catalogue: &mut Catalogue<'a>, known: Known<'a>) -> Result<(), AllocError>
     ensures { OnOk result ((n : List ℕ) → known_in catalogue.new n
         ≡ or_else (known_in catalogue.old n) (first_named n (known_view known.entry ∷ []))) }
 {
@@ -90,7 +90,7 @@ fn add<'a>(alloc: Global, catalogue: &mut Catalogue<'a>, known: Known<'a>) -> Re
     if catalogue.contains_key(name) {
         return Ok(());
     }
-    catalogue.insert(String::from_str(alloc, name)?, known)?;
+    catalogue.insert(known.definition.name.clone()?, known)?;
     Ok(())
 }
 

@@ -146,7 +146,7 @@ impl Place {
 
 impl Kind {
     ghost use Rattle.std.specs.Prelude.{◌≡◌, IfOk, string_bytes};
-    ghost use Rattle.tera_check.specs.Findings.{kind_name, severity_of, default_level, label_of};
+    ghost use Rattle.tera_check.specs.Findings.{kind_name, severity_of, default_level, depends_on_others, label_of};
 
     /// The word for the kind, which stays the same from version to version.
     pub fn name(self) -> &'static str
@@ -214,6 +214,36 @@ impl Kind {
         match self {
             Kind::UnusedComponent => None,
             _ => Some(self.severity()),
+        }
+    }
+
+    /// Whether findings of the kind depend on what other files define or call, on the names of templates or on what a
+    /// program registers. These may not be known.
+    pub(crate) fn depends_on_others(self) -> bool
+        ensures { result ≡ depends_on_others self }
+    {
+        match self {
+            Kind::UnusedComponent
+            | Kind::UnusedBody
+            | Kind::DefinedAgain
+            | Kind::MissingArgument
+            | Kind::UnknownArgument
+            | Kind::WrongType
+            | Kind::MissingTemplate
+            | Kind::CircularExtends
+            | Kind::CircularInclude
+            | Kind::UndefinedBlock
+            | Kind::SuperWithoutParent
+            | Kind::UnknownFilter
+            | Kind::UnknownTest
+            | Kind::UnknownFunction => true,
+            Kind::Fault
+            | Kind::UndefinedComponent
+            | Kind::RepeatedArgument
+            | Kind::UnusedParameter
+            | Kind::RepeatedKey
+            | Kind::RepeatedCondition
+            | Kind::UnusedIgnore => false,
         }
     }
 

@@ -12,9 +12,8 @@
 //! and `judged`, of one call; `parameters`, of one component (specs `Scopes`); `rules`, of each part by itself, with `repeated_keys` and `repeated_conditions` (specs
 //! `RepeatedKeys`, `RepeatedConditions`); `silenced` (specs `Silenced`), and `due`, what of that is reported beside
 //! faults (specs `Due`); `checked`, of a template, and `found`, of all; `registered`, the names that a program registers
-//! (specs `Registered`), and `unknown`, of each part by these, with `unknown_filters`, `unknown_tests` and
-//! `unknown_functions` (specs `Unknown`, `UnknownFilters` ..); `unused_components`, over all templates (specs
-//! `UnusedComponents`; `Added`, what these add); `levels`, what of all that is reported (specs `Levels`);
+//! (specs `Registered`), and `unknown`, of each part by these (specs `Unknown`); `unused_components`, over all templates
+//! (specs `UnusedComponents`; `Added`, what these add); `levels`, what of all that is reported (specs `Levels`);
 //! `messages`, texts; `finding`, `faults`; `fault_findings`, with `causes`, `tags`, `hints` and `walk` (specs
 //! `FaultFindings`, `Hints`); `objects`; `laws`.
 #![tactic(auto)]
@@ -52,14 +51,11 @@ mod spans;
 mod tags;
 mod templates;
 mod unknown;
-mod unknown_filters;
-mod unknown_functions;
-mod unknown_tests;
 mod unused_components;
 mod walk;
 
 pub use calls::calls_of;
-pub use catalogue::{Catalogue, Known, catalogue_of, known_at};
+pub use catalogue::{Catalogue, Known, add_definitions, add_known, catalogue_of, known_at};
 pub use checked::{faults_of, findings_of, put_in_order, status};
 pub use due::push_due;
 pub use faults::finding_of_fault;

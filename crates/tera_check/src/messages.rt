@@ -10,9 +10,6 @@ ghost use Rattle.tera_check.specs.Parameters.{unused_text};
 ghost use Rattle.tera_check.specs.Repeated.{repeated_text, next_text};
 ghost use Rattle.tera_check.specs.RepeatedConditions.{again_condition_text, earlier_text};
 ghost use Rattle.tera_check.specs.Silenced.{missing_rule_text, no_finding_text, no_rule_text};
-ghost use Rattle.tera_check.specs.UnknownFilters.{unknown_filter_text};
-ghost use Rattle.tera_check.specs.UnknownFunctions.{unknown_function_text};
-ghost use Rattle.tera_check.specs.UnknownTests.{unknown_test_text};
 ghost use Rattle.tera_check.specs.UnusedComponents.{unused_component_text};
 ghost use Rattle.tera_check.specs.declared.repeated.Holder.TheVariants as holders;
 
@@ -158,25 +155,4 @@ pub(crate) fn met_here(alloc: Global) -> Result<String, AllocError>
     ensures { IfOk result (λ m. string_bytes m ≡ met_text) }
 {
     String::from_str(alloc, "met here, as the tag is not closed")
-}
-
-/// That there is no filter of this name.
-pub(crate) fn unknown_filter(alloc: Global, name: &str) -> Result<String, AllocError>
-    ensures { IfOk result (λ m. string_bytes m ≡ unknown_filter_text name.now) }
-{
-    format!(in alloc; "No filter is named `{name}`")
-}
-
-/// That there is no test of this name.
-pub(crate) fn unknown_test(alloc: Global, name: &str) -> Result<String, AllocError>
-    ensures { IfOk result (λ m. string_bytes m ≡ unknown_test_text name.now) }
-{
-    format!(in alloc; "No test is named `{name}`")
-}
-
-/// That there is no function of this name.
-pub(crate) fn unknown_function(alloc: Global, name: &str) -> Result<String, AllocError>
-    ensures { IfOk result (λ m. string_bytes m ≡ unknown_function_text name.now) }
-{
-    format!(in alloc; "No function is named `{name}`")
 }

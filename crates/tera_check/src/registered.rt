@@ -10,6 +10,14 @@ use std::collections::BTreeSet;
 /// Names of filters, of tests, of functions or of components.
 pub(crate) type Names<'a> = BTreeSet<&'a str>;
 
+/// What a program registers under names.
+#[derive(Clone, Copy)]
+pub(crate) enum Registry {
+    Filters,
+    Tests,
+    Functions,
+}
+
 /// The filters, tests and functions that templates may name, where they are known: all that there are in the program that
 /// renders the templates.
 #[derive(Debug, Drop)]
@@ -21,7 +29,7 @@ pub struct Registered<'a> {
 
 impl<'a> Registered<'a> {
     ghost use Rattle.std.specs.Prelude.{◌≡◌, IfOk};
-    ghost use Rattle.tera_check.specs.Registered.{AreListed, list_view, registered_view};
+    ghost use Rattle.tera_check.specs.Registered.{AreListed, has, list_view, registered_view};
 
     /// Those of these lists. If a list is absent, any name may be one of its names.
     pub fn of(
@@ -41,25 +49,15 @@ impl<'a> Registered<'a> {
         })
     }
 
-    /// Whether there may be a filter of this name.
-    pub(crate) fn may_filter(&self, name: &str) -> bool
-        ensures { result ≡ (registered_view self.now).filters name.now }
+    /// Whether there may be one of this name. `super` is a function of every program.
+    pub(crate) fn has(&self, registry: Registry, name: &str) -> bool
+        ensures { result ≡ has (registered_view self.now) registry name.now }
     {
-        may_be(&self.filters, name)
-    }
-
-    /// Whether there may be a test of this name.
-    pub(crate) fn may_test(&self, name: &str) -> bool
-        ensures { result ≡ (registered_view self.now).tests name.now }
-    {
-        may_be(&self.tests, name)
-    }
-
-    /// Whether there may be a function of this name.
-    pub(crate) fn may_call(&self, name: &str) -> bool
-        ensures { result ≡ (registered_view self.now).functions name.now }
-    {
-        may_be(&self.functions, name)
+        match registry {
+            Registry::Filters => may_be(&self.filters, name),
+            Registry::Tests => may_be(&self.tests, name),
+            Registry::Functions => may_be(&self.functions, name) || name == "super",
+        }
     }
 }
 

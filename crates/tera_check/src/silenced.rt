@@ -8,7 +8,7 @@ ghost use Rattle.std.specs.Str.{bytes_eq};
 ghost use Rattle.tera_check.specs.Findings.{FindingVal, finding_view, kind_name};
 ghost use Rattle.tera_check.specs.Ignores.{ignore_view, ignores_view};
 ghost use Rattle.tera_check.specs.Lost.{places_under};
-ghost use Rattle.tera_check.specs.Silenced.{AreLinesOf, has_finding_at, is_judged, depends_on_others, is_known_kind, is_silenced_at, is_unused, kind_named, next_line, not_a_rule_text, silences, silences_at, unused_among, unused_ignore, unused_ignore_text, unused_ignores};
+ghost use Rattle.tera_check.specs.Silenced.{AreLinesOf, has_finding_at, is_judged, is_known_kind, is_silenced_at, is_unused, kind_named, next_line, not_a_rule_text, silences, silences_at, unused_among, unused_ignore, unused_ignore_text, unused_ignores};
 
 use crate::finding::{Finding, KINDS, Kind, push_finding};
 use crate::ignores::Ignore;
@@ -173,31 +173,7 @@ fn is_judged(is_open: bool, rule: &str) -> bool
 fn is_known_kind(is_open: bool, kind: Kind) -> bool
     ensures { result ≡ is_known_kind is_open kind }
 {
-    !depends_on_others(kind) && !(is_open && kind == Kind::UndefinedComponent)
-}
-
-// Whether findings of the kind depend on what other files define or call, on the names of templates or on what a program
-// registers. These may not be known.
-fn depends_on_others(kind: Kind) -> bool
-    ensures { result ≡ depends_on_others kind }
-{
-    matches!(
-        kind,
-        Kind::UnusedComponent
-            | Kind::UnusedBody
-            | Kind::DefinedAgain
-            | Kind::MissingArgument
-            | Kind::UnknownArgument
-            | Kind::WrongType
-            | Kind::MissingTemplate
-            | Kind::CircularExtends
-            | Kind::CircularInclude
-            | Kind::UndefinedBlock
-            | Kind::SuperWithoutParent
-            | Kind::UnknownFilter
-            | Kind::UnknownTest
-            | Kind::UnknownFunction
-    )
+    !kind.depends_on_others() && !(is_open && kind == Kind::UndefinedComponent)
 }
 
 // The kind whose word this is.

@@ -1,9 +1,6 @@
-//! The rules on what the program registers.
-//!
-//! Each is a module, with specs of its name: it takes a part, and adds a finding if there is not what the part names.
-//! `push_unknown_in` has a line for each.
+//! The rules on what the program registers: `unknown-filter`, `unknown-test` and `unknown-function`.
 
-ghost use Rattle.std.specs.Prelude.{◌≡◌, ◌++◌, ◌∷◌, [], false, map, IfOk, OnOk};
+ghost use Rattle.std.specs.Prelude.{◌≡◌, ◌++◌, ◌∷◌, [], false, map, string_bytes, IfOk, OnOk};
 ghost use Rattle.std.specs.List.{filter, flat_map};
 ghost use Rattle.tera_tree.specs.Outputs.{output_view};
 ghost use Rattle.tera_tree.specs.Parts.{part_view, parts_view};
@@ -11,20 +8,18 @@ ghost use Rattle.tera_check.specs.Added.{IsAddedAt, IsWith};
 ghost use Rattle.tera_check.specs.Due.{is_due};
 ghost use Rattle.tera_check.specs.Findings.{finding_view};
 ghost use Rattle.tera_check.specs.Registered.{registered_view};
-ghost use Rattle.tera_check.specs.Unknown.{AreWithUnknown, due_unknown, unknown_findings, unknown_in};
+ghost use Rattle.tera_check.specs.Unknown.{AreWithUnknown, due_unknown, unknown_findings, unknown_if, unknown_in, unknown_kind, unknown_text};
 ghost use Rattle.tera_check.specs.Within.{all_parts};
 
 use crate::due::push_due;
-use crate::finding::Finding;
+use crate::finding::{Finding, Kind, push_finding};
 use crate::found::Found;
-use crate::registered::Registered;
+use crate::registered::{Registered, Registry};
 use crate::templates::{Template, tree_of};
-use crate::unknown_filters::push_unknown_filters;
-use crate::unknown_functions::push_unknown_functions;
-use crate::unknown_tests::push_unknown_tests;
 use std::alloc::{AllocError, Global};
 use tera_parser::ParserOutput;
-use tera_parser::ast::{Part, Parts, top_parts};
+use tera_parser::ast::{Expression, Part, Parts, top_parts};
+use tera_parser::value::Span;
 
 /// Adds, to what is found in each of the first `checked` templates, the filters, tests and functions there that the
 /// program does not have. What is found is in the order of the templates.
@@ -148,7 +143,8 @@ fn take<'a>(
     part.push_inside(left)
 }
 
-// Adds what each rule finds in the part.
+// Adds a finding if the part names what the program does not have.
+#[tactic(auto, using(crate::proofs::UnknownLemmas::filter_view, crate::proofs::UnknownLemmas::test_view, crate::proofs::UnknownLemmas::function_view))]
 fn push_unknown_in(
     alloc: Global,
     findings: &mut Vec<Finding>,
@@ -158,7 +154,60 @@ fn push_unknown_in(
     ensures { OnOk result (map finding_view findings.new.items ≡ map finding_view findings.old.items
         ++ unknown_in (registered_view registered.now) (part_view part.entry)) }
 {
-    push_unknown_filters(alloc, findings, registered, part)?;
-    push_unknown_tests(alloc, findings, registered, part)?;
-    push_unknown_functions(alloc, findings, registered, part)
+    match part {
+        Part::Expression(Expression::Filter(filter)) => {
+            let (name, span) = (filter.node().name.as_str(), filter.span());
+            push_if_unknown(alloc, findings, registered, Registry::Filters, name, span)
+        }
+        Part::Expression(Expression::Test(test)) => {
+            let (name, span) = (test.node().name.as_str(), test.span());
+            push_if_unknown(alloc, findings, registered, Registry::Tests, name, span)
+        }
+        Part::Expression(Expression::FunctionCall(call)) => {
+            let (name, span) = (call.node().name.as_str(), call.span());
+            push_if_unknown(alloc, findings, registered, Registry::Functions, name, span)
+        }
+        Part::Node(_) | Part::Expression(_) => Ok(()),
+    }
+}
+
+fn push_if_unknown(
+    alloc: Global,
+    findings: &mut Vec<Finding>,
+    registered: &Registered<'_>,
+    registry: Registry,
+    name: &str,
+    span: &Span,
+) -> Result<(), AllocError>
+    ensures { OnOk result (map finding_view findings.new.items ≡ map finding_view findings.old.items
+        ++ unknown_if (registered_view registered.now) registry name.now span.now) }
+{
+    if registered.has(registry, name) {
+        return Ok(());
+    }
+    let message = unknown_text(alloc, registry, name)?;
+    let kind = unknown_kind(registry);
+    push_finding(findings, Finding::new(alloc, kind, span, message))
+}
+
+// Of what kind the finding is that one of a name is missing.
+fn unknown_kind(registry: Registry) -> Kind
+    ensures { result ≡ unknown_kind registry }
+{
+    match registry {
+        Registry::Filters => Kind::UnknownFilter,
+        Registry::Tests => Kind::UnknownTest,
+        Registry::Functions => Kind::UnknownFunction,
+    }
+}
+
+// That there is none of this name.
+fn unknown_text(alloc: Global, registry: Registry, name: &str) -> Result<String, AllocError>
+    ensures { IfOk result (λ m. string_bytes m ≡ unknown_text registry name.now) }
+{
+    match registry {
+        Registry::Filters => format!(in alloc; "No filter is named `{name}`"),
+        Registry::Tests => format!(in alloc; "No test is named `{name}`"),
+        Registry::Functions => format!(in alloc; "No function is named `{name}`"),
+    }
 }

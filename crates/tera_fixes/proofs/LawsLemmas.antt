@@ -118,15 +118,15 @@ call_parts text c span parts is =
 component_parts : (x : ContextVal) (span : Span) (s : SuggestionVal) → component_for x span ≡ Some s → All (IsPartOf x.source) s.parts
 component_parts x span s is =
     let (c, at, renamed) = and_then_some (renamed_call x span) (call_at x.calls span.range.start) s is in
-    let (name, named, made) = and_then_some (λ (name : List ℕ). option_map (λ parts. renaming parts name) (name_parts x.source c span)) (meant c.name x.names) s renamed in
-    let (parts, there, same) = map_some (λ parts. renaming parts name) (name_parts x.source c span) s made in
+    let (name, named, made) = and_then_some (λ (name : List ℕ). option_map (λ parts. renaming parts c.name name) (name_parts x.source c span)) (meant c.name x.names) s renamed in
+    let (parts, there, same) = map_some (λ parts. renaming parts c.name name) (name_parts x.source c span) s made in
     subst (λ (v : SuggestionVal). All (IsPartOf x.source) v.parts) same (call_parts x.source c span parts there)
 
 argument_parts : (x : ContextVal) (span : Span) (s : SuggestionVal) → argument_for x span ≡ Some s → All (IsPartOf x.source) s.parts
 argument_parts x span s is =
     let (a, at, renamed) = and_then_some (renamed_argument x span.range.start) (attribute_at x.calls span.range.start) s is in
-    let (part, there, made) = and_then_some (λ (part : Part). option_map (renaming (part ∷ [])) (meant_parameter x.known a)) (name_before x.source a.name span.range.start) s renamed in
-    let (name, named, same) = map_some (renaming (part ∷ [])) (meant_parameter x.known a) s made in
+    let (part, there, made) = and_then_some (λ (part : Part). option_map (renaming (part ∷ []) a.name) (meant_parameter x.known a)) (name_before x.source a.name span.range.start) s renamed in
+    let (name, named, same) = map_some (renaming (part ∷ []) a.name) (meant_parameter x.known a) s made in
     subst (λ (v : SuggestionVal). All (IsPartOf x.source) v.parts) same (all_one (IsPartOf x.source) part (name_part x.source a.name span.range.start part there))
 
 removal_parts : (x : ContextVal) (span : Span) (s : SuggestionVal) → removal_for x span ≡ Some s → All (IsPartOf x.source) s.parts
@@ -209,16 +209,16 @@ meant_is_there word names name is =
 pub component_exists : (x : ContextVal) (span : Span) (s : SuggestionVal) → component_for x span ≡ Some s → Contains x.names s.text
 component_exists x span s is =
     let (c, at, renamed) = and_then_some (renamed_call x span) (call_at x.calls span.range.start) s is in
-    let (name, named, made) = and_then_some (λ (name : List ℕ). option_map (λ parts. renaming parts name) (name_parts x.source c span)) (meant c.name x.names) s renamed in
-    let (parts, there, same) = map_some (λ parts. renaming parts name) (name_parts x.source c span) s made in
+    let (name, named, made) = and_then_some (λ (name : List ℕ). option_map (λ parts. renaming parts c.name name) (name_parts x.source c span)) (meant c.name x.names) s renamed in
+    let (parts, there, same) = map_some (λ parts. renaming parts c.name name) (name_parts x.source c span) s made in
     subst (λ (v : SuggestionVal). Contains x.names v.text) same (meant_is_there c.name x.names name named)
 
 pub argument_exists : (x : ContextVal) (span : Span) (s : SuggestionVal) → argument_for x span ≡ Some s
     → (name : List ℕ) × (k : KnownVal) × (x.known name ≡ Some k) × Contains (parameter_names k.definition) s.text
 argument_exists x span s is =
     let (a, at, renamed) = and_then_some (renamed_argument x span.range.start) (attribute_at x.calls span.range.start) s is in
-    let (part, there, made) = and_then_some (λ (part : Part). option_map (renaming (part ∷ [])) (meant_parameter x.known a)) (name_before x.source a.name span.range.start) s renamed in
-    let (name, named, same) = map_some (renaming (part ∷ [])) (meant_parameter x.known a) s made in
+    let (part, there, made) = and_then_some (λ (part : Part). option_map (renaming (part ∷ []) a.name) (meant_parameter x.known a)) (name_before x.source a.name span.range.start) s renamed in
+    let (name, named, same) = map_some (renaming (part ∷ []) a.name) (meant_parameter x.known a) s made in
     let (k, known, is_meant_there) = and_then_some (λ (k : KnownVal). meant a.name (free_parameters k.definition a.call)) (x.known a.call.name) name named in
     let names = parameter_names k.definition in
     let free : Contains (free_of a.call names) name = meant_is_there a.name (free_of a.call names) name is_meant_there in

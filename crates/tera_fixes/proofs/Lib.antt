@@ -1,4 +1,6 @@
+pub mod AllLemmas
 pub mod BetterLemmas
+pub mod ComponentsLemmas
 pub mod EditedLemmas
 pub mod LawsLemmas
 pub mod MeantLemmas

@@ -1,5 +1,5 @@
 -- What is suggested for the findings of a template.
-use Rattle.std.specs.Prelude.{◌≡◌, ℕ, ◌-◌, List, [], ◌∷◌, Bool, true, false, ◌&&◌, if◌then◌else◌, map, nat_lt, Option, None, Some, String}
+use Rattle.std.specs.Prelude.{◌≡◌, ℕ, ◌-◌, List, [], ◌∷◌, Bool, true, false, ◌&&◌, filter, if◌then◌else◌, length, map, nat_lt, Option, None, Some, String}
 use Rattle.std.specs.declared.alloc.Global.{Global}
 use Rattle.std.specs.Borrow.{Bor}
 use Rattle.std.specs.BTreeMap.{BTreeMap}
@@ -35,6 +35,10 @@ abbrev pub suggested : ContextVal → ℕ → List Finding → List (Option Sugg
 suggested x left [] = []
 suggested x left (f ∷ fs) =
     if is_wanted left f.kind then suggestion_of x (finding_view f) ∷ suggested x (left - 1) fs else None ∷ suggested x left fs
+
+-- more of the findings may have a suggestion than get one
+abbrev pub are_too_many : List Finding → Bool
+are_too_many findings = nat_lt 100 (length (filter (λ f. is_suggestible f.kind) findings))
 
 -- the calls are those of the tree of a template; none, if it has no tree
 abbrev pub AreCallsIn : Option ParserOutput → List (Bor (Spanned ComponentCall)) → Type 0

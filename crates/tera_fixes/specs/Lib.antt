@@ -1,6 +1,7 @@
 pub mod All
 pub mod Attributes
 pub mod Better
+pub mod Components
 pub mod Edited
 pub mod Laws
 pub mod Meant

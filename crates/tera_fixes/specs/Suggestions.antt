@@ -27,13 +27,14 @@ pub record SuggestionVal : Type 0 where
 abbrev pub suggestion_view : Suggestion → SuggestionVal
 suggestion_view s = record { title = string_bytes s.title; parts = s.parts.items; text = string_bytes s.text }
 
--- a name in the place of the parts
-abbrev pub renaming : List Part → List ℕ → SuggestionVal
-renaming parts name = record { title = codes "replace with `" ++ (name ++ codes "`"); parts = parts; text = name }
+-- a name in the place of the parts, each of which is a word
+abbrev pub renaming : List Part → List ℕ → List ℕ → SuggestionVal
+renaming parts word name =
+    record { title = codes "Replace `" ++ (word ++ (codes "` with `" ++ (name ++ codes "`"))); parts = parts; text = name }
 
 -- nothing in the place of an argument of the name
 abbrev pub removal : List ℕ → Part → SuggestionVal
-removal name part = record { title = codes "remove this `" ++ (name ++ codes "`"); parts = part ∷ []; text = [] }
+removal name part = record { title = codes "Remove this `" ++ (name ++ codes "`"); parts = part ∷ []; text = [] }
 
 -- what is known around a finding: the components, by their names; the names; the calls and the text of the template
 pub record ContextVal : Type 0 where
@@ -56,7 +57,7 @@ name_parts source c span =
     option_and_then (λ first. if c.is_closed then Some (first ∷ []) else with_last first (part_before source c.name span.range.end)) (part_after source c.name span.range.start)
 
 abbrev pub renamed_call : ContextVal → Span → CallVal → Option SuggestionVal
-renamed_call x span c = option_and_then (λ name. option_map (λ parts. renaming parts name) (name_parts x.source c span)) (meant c.name x.names)
+renamed_call x span c = option_and_then (λ name. option_map (λ parts. renaming parts c.name name) (name_parts x.source c span)) (meant c.name x.names)
 
 abbrev pub component_for : ContextVal → Span → Option SuggestionVal
 component_for x span = option_and_then (renamed_call x span) (call_at x.calls span.range.start)
@@ -68,7 +69,7 @@ meant_parameter known a = option_and_then (λ (k : KnownVal). meant a.name (free
 
 abbrev pub renamed_argument : ContextVal → ℕ → AttributeVal → Option SuggestionVal
 renamed_argument x byte a =
-    option_and_then (λ part. option_map (renaming (part ∷ [])) (meant_parameter x.known a)) (name_before x.source a.name byte)
+    option_and_then (λ part. option_map (renaming (part ∷ []) a.name) (meant_parameter x.known a)) (name_before x.source a.name byte)
 
 abbrev pub argument_for : ContextVal → Span → Option SuggestionVal
 argument_for x span = option_and_then (renamed_argument x span.range.start) (attribute_at x.calls span.range.start)

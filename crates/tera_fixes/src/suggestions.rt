@@ -5,13 +5,17 @@ ghost use Rattle.std.specs.Option.{option_map};
 ghost use Rattle.tera_check.specs.Findings.{finding_view};
 ghost use Rattle.tera_check.specs.Named.{known_in};
 ghost use Rattle.tera_fixes.specs.Attributes.{attribute_view, call_view};
+ghost use Rattle.tera_fixes.specs.Components.{AreMeanings};
+ghost use Rattle.tera_fixes.specs.Names.{component_names};
 ghost use Rattle.tera_fixes.specs.Suggestions.{argument_for, component_for, context_view, meant_parameter, name_parts, removal, removal_for, renaming, suggestion_of, suggestion_view};
 
 use crate::attributes::{Attribute, attribute_at, call_at};
+use crate::components::{Meanings, meant_component};
 use crate::meant::meant;
-use crate::names::{component_names, free_parameters};
+use crate::names::free_parameters;
 use crate::parts::{Part, argument_part, name_before, part_after, part_before};
 use std::alloc::{AllocError, Global};
+use std::collections::BTreeMap;
 use tera_check::{Catalogue, Finding, Kind};
 use tera_parser::ast::ComponentCall;
 use tera_parser::value::{Span, Spanned};
@@ -19,7 +23,7 @@ use tera_parser::value::{Span, Spanned};
 /// What may have been meant where something is found: the same text in the place of each of some parts.
 #[derive(Debug, Drop)]
 pub struct Suggestion {
-    /// What it does, as ``replace with `label` ``.
+    /// What it does, as ``Replace `labl` with `label` ``.
     pub title: String,
     /// One, or of a call with a body two: in the order of the text, and apart.
     pub parts: Vec<Part>,
@@ -53,9 +57,26 @@ pub fn suggestion_of(
     ensures { IfOk result (λ s. option_map suggestion_view s
         ≡ suggestion_of (context_view context.entry) (finding_view finding.now)) }
 {
+    let mut meanings = BTreeMap::new(alloc);
+    suggestion_by(alloc, &mut meanings, context, finding)
+}
+
+/// What `suggestion_of` gives, but a name that is in `meanings` is not compared again. The name of a component that no
+/// template defines is added to it. At first it is empty, and all calls with it have the same components.
+pub fn suggestion_by(
+    alloc: Global,
+    meanings: &mut Meanings,
+    context: Context<'_, '_>,
+    finding: &Finding,
+) -> Result<Option<Suggestion>, AllocError>
+    requires { AreMeanings (component_names context.catalogue.now) meanings.old }
+    ensures suggestion { IfOk result (λ s. option_map suggestion_view s
+        ≡ suggestion_of (context_view context.entry) (finding_view finding.now)) }
+    ensures kept { AreMeanings (component_names context.entry.catalogue.now) meanings.new }
+{
     let span = &finding.span;
     match finding.kind {
-        Kind::UndefinedComponent => component_for(alloc, context, span),
+        Kind::UndefinedComponent => component_for(alloc, meanings, context, span),
         Kind::UnknownArgument => argument_for(alloc, context, span),
         Kind::RepeatedArgument => removal_for(alloc, context, span),
         _ => Ok(None),
@@ -64,21 +85,24 @@ pub fn suggestion_of(
 
 fn component_for(
     alloc: Global,
+    meanings: &mut Meanings,
     context: Context<'_, '_>,
     span: &Span,
 ) -> Result<Option<Suggestion>, AllocError>
-    ensures { IfOk result (λ s. option_map suggestion_view s
+    requires { AreMeanings (component_names context.catalogue.now) meanings.old }
+    ensures suggestion { IfOk result (λ s. option_map suggestion_view s
         ≡ component_for (context_view context.entry) span.now) }
+    ensures kept { AreMeanings (component_names context.entry.catalogue.now) meanings.new }
 {
     let Some(call) = call_at(context.calls, span.range.start) else {
         return Ok(None);
     };
-    let names = component_names(alloc, context.catalogue)?;
-    let Some(name) = meant(alloc, call.name.as_str(), names.as_slice())? else {
+    let word = call.name.as_str();
+    let Some(name) = meant_component(alloc, context.catalogue, meanings, word)? else {
         return Ok(None);
     };
     match name_parts(alloc, context.source, call, span)? {
-        Some(parts) => Ok(Some(renaming(alloc, name, parts)?)),
+        Some(parts) => Ok(Some(renaming(alloc, word, name.as_str(), parts)?)),
         None => Ok(None),
     }
 }
@@ -128,7 +152,7 @@ fn argument_for(
         Some(name) => {
             let mut parts = Vec::new(alloc);
             parts.push(part)?;
-            Ok(Some(renaming(alloc, name, parts)?))
+            Ok(Some(renaming(alloc, attribute.name, name, parts)?))
         }
         None => Ok(None),
     }
@@ -171,12 +195,17 @@ fn removal_for(
     }
 }
 
-// The name in the place of the parts.
-fn renaming(alloc: Global, name: &str, parts: Vec<Part>) -> Result<Suggestion, AllocError>
-    ensures { IfOk result (λ s. suggestion_view s ≡ renaming parts.items name.now) }
+// The name in the place of the parts, each of which is the word.
+fn renaming(
+    alloc: Global,
+    word: &str,
+    name: &str,
+    parts: Vec<Part>,
+) -> Result<Suggestion, AllocError>
+    ensures { IfOk result (λ s. suggestion_view s ≡ renaming parts.items word.now name.now) }
 {
     Ok(Suggestion {
-        title: format!(in alloc; "replace with `{name}`")?,
+        title: format!(in alloc; "Replace `{word}` with `{name}`")?,
         parts,
         text: String::from_str(alloc, name)?,
     })
@@ -189,7 +218,7 @@ fn removal(alloc: Global, name: &str, part: Part) -> Result<Suggestion, AllocErr
     let mut parts = Vec::new(alloc);
     parts.push(part)?;
     Ok(Suggestion {
-        title: format!(in alloc; "remove this `{name}`")?,
+        title: format!(in alloc; "Remove this `{name}`")?,
         parts,
         text: String::new(alloc),
     })

@@ -14,7 +14,7 @@ impl Attempt for Suggesting {
         let library = "{% component box(title) %}{{ title }}{% endcomponent %}";
         match suggested(alloc, library, "{{<bax titel={a} title=\"b\"/>}}") {
             Ok(text) => Seen::answer(
-                text.as_str() == "replace with `box`; {{<box titel={a} title=\"b\"/>}}",
+                text.as_str() == "Replace `bax` with `box`; {{<box titel={a} title=\"b\"/>}}",
             ),
             Err(_) => Seen::Memory,
         }

@@ -9,14 +9,14 @@ const LIBRARY: &str =
 {% component boz(a = 1) %}{{ a }}{% endcomponent %}";
 
 // The library, a source, and what is suggested for it with the text that results.
-const SUGGESTED: [(&str, &str); 14] = [
+const SUGGESTED: [(&str, &str); 15] = [
     (
         r#"{{<ui.buton label={1}/>}}"#,
-        r#"replace with `ui.button`; {{<ui.button label={1}/>}}"#,
+        r#"Replace `ui.buton` with `ui.button`; {{<ui.button label={1}/>}}"#,
     ),
     (
         r#"{{< ui.butten label={1}/>}}"#,
-        r#"replace with `ui.button`; {{< ui.button label={1}/>}}"#,
+        r#"Replace `ui.butten` with `ui.button`; {{< ui.button label={1}/>}}"#,
     ),
     (
         r#"{{<ui . buton label={1}/>}}"#,
@@ -24,19 +24,19 @@ const SUGGESTED: [(&str, &str); 14] = [
     ),
     (
         r#"{% <bx title="a"> %}{{<ui.buton label={bx}/>}}{% </ bx > %}"#,
-        r#"replace with `box`; replace with `ui.button`; {% <box title="a"> %}{{<ui.button label={bx}/>}}{% </ box > %}"#,
+        r#"Replace `bx` with `box`; Replace `ui.buton` with `ui.button`; {% <box title="a"> %}{{<ui.button label={bx}/>}}{% </ box > %}"#,
     ),
     (
         r#"{{<ui.button labl="Buy"/>}}"#,
-        r#"replace with `label`; {{<ui.button label="Buy"/>}}"#,
+        r#"Replace `labl` with `label`; {{<ui.button label="Buy"/>}}"#,
     ),
     (
         r#"{{<ui.button labl = { (a) + 1 }/>}}"#,
-        r#"replace with `label`; {{<ui.button label = { (a) + 1 }/>}}"#,
+        r#"Replace `labl` with `label`; {{<ui.button label = { (a) + 1 }/>}}"#,
     ),
     (
         r#"{{<ui.button labl={ (a) }/>}}"#,
-        r#"replace with `label`; {{<ui.button label={ (a) }/>}}"#,
+        r#"Replace `labl` with `label`; {{<ui.button label={ (a) }/>}}"#,
     ),
     (r#"{{<ui.button labl/>}}"#, r#"{{<ui.button labl/>}}"#),
     (
@@ -49,19 +49,23 @@ const SUGGESTED: [(&str, &str); 14] = [
     ),
     (
         r#"{{<ui.button label="Pay" siez={2} label="Buy"/>}}"#,
-        r#"remove this `label`; replace with `size`; {{<ui.button size={2} label="Buy"/>}}"#,
+        r#"Remove this `label`; Replace `siez` with `size`; {{<ui.button size={2} label="Buy"/>}}"#,
     ),
     (
         r#"{{<ui.button label={ (<ui.buton label={1}/>) }{...a} label="Buy"/>}}"#,
-        r#"replace with `ui.button`; remove this `label`; {{<ui.button {...a} label="Buy"/>}}"#,
+        r#"Replace `ui.buton` with `ui.button`; Remove this `label`; {{<ui.button {...a} label="Buy"/>}}"#,
     ),
     (
         r#"{{<box titl="a"/>}}{{<box title={1} y={2}/>}}{{<bo/>}}{{<bor/>}}"#,
-        r#"replace with `title`; {{<box title="a"/>}}{{<box title={1} y={2}/>}}{{<bo/>}}{{<bor/>}}"#,
+        r#"Replace `titl` with `title`; {{<box title="a"/>}}{{<box title={1} y={2}/>}}{{<bo/>}}{{<bor/>}}"#,
+    ),
+    (
+        r#"{{<ui.buton/>}}{{<x/>}}{{<ui.buton/>}}{{<x/>}}{{<bax/>}}"#,
+        r#"Replace `ui.buton` with `ui.button`; Replace `ui.buton` with `ui.button`; Replace `bax` with `box`; {{<ui.button/>}}{{<x/>}}{{<ui.button/>}}{{<x/>}}{{<box/>}}"#,
     ),
     (
         r#"é{{<ui.buton label="é"/>}}"#,
-        r#"replace with `ui.button`; é{{<ui.button label="é"/>}}"#,
+        r#"Replace `ui.buton` with `ui.button`; é{{<ui.button label="é"/>}}"#,
     ),
 ];
 
@@ -84,10 +88,7 @@ fn long_names_are_not_corrected(rt: HostRuntime) -> Result<(), Fail> {
         )?;
         let source = format!(in rt.alloc(); "{{{{<{front}b/>}}}}")?;
         let text = suggested(rt.alloc(), library.as_str(), source.as_str())?;
-        assert!(rt;
-            text.starts_with("replace with `a") == is_corrected,
-            "{text}"
-        );
+        assert!(rt; text.starts_with("Replace `a") == is_corrected, "{text}");
     }
     Ok(())
 }

@@ -1,6 +1,7 @@
 -- The call in which a byte of a text is.
 use Rattle.std.specs.Prelude.{ℕ, Bool, not, ◌&&◌, ◌||◌, nat_eq, nat_lt, if◌then◌else◌, Option, Some, None, List, [], ◌∷◌, codes, length, drop, option_map}
 use Rattle.std.specs.List.{find}
+use Rattle.std.specs.Option.{option_or}
 use Rattle.std.specs.Str.{bytes_eq}
 use Rattle.tera_lexer.specs.grammar.Tokens.{Tok, Ident, Symbol}
 use Rattle.tera_outline.specs.declared.calls.InCall.{InCall}
@@ -73,16 +74,16 @@ named last (n ∷ ns) ps = stretches last n.start (first_inside (end_of (n ∷ n
 abbrev pub called : ℕ → List Part → List StretchVal
 called last ps = named last (dotted ps) ps
 
-abbrev pub either : Option StretchVal → Option StretchVal → Option StretchVal
-either None other = other
-either (Some s) other = Some s
+-- that of a call that the first of these parts begins before the byte, if it begins one
+abbrev pub stretch_after : ℕ → ℕ → Before → Part → List Part → Option StretchVal
+stretch_after last byte before p ps =
+    if nat_lt p.start byte && begins_call before p.token then find (holds byte) (called last ps) else None
 
--- that of the first call that has one at the byte
+-- that of the last call that has one at the byte: of calls within one another the innermost
 abbrev pub stretch_in : ℕ → ℕ → Before → List Part → Option StretchVal
 stretch_in last byte before [] = None
 stretch_in last byte before (p ∷ ps) =
-    either (if begins_call before p.token then find (holds byte) (called last ps) else None)
-    (stretch_in last byte (after_token before p.token) ps)
+    option_or (stretch_in last byte (after_token before p.token) ps) (stretch_after last byte before p ps)
 
 abbrev pub call_at : ℕ → ℕ → List Part → Option InCallVal
 call_at last byte ps = option_map place_of (stretch_in last byte Other ps)

@@ -6,7 +6,7 @@ use Rattle.std.specs.List.{find}
 use Rattle.tera_lexer.specs.grammar.Tokens.{Tok, Start, Ident, Str, Escaped, Integer, Truth, Symbol}
 use Rattle.tera_lexer.specs.declared.lexer.delimiters.Kind.TheVariants.{Block, Variable}
 use Rattle.tera_outline.specs.declared.names.Before.{Before}
-use Rattle.tera_outline.specs.declared.names.Before.TheVariants.{Tag, Other}
+use Rattle.tera_outline.specs.declared.names.Before.TheVariants.{Tag, Dot, Other}
 use Rattle.tera_outline.specs.declared.completions.CompletionKind.{CompletionKind}
 use Rattle.tera_outline.specs.declared.completions.CompletionKind.TheVariants.{Statement, Component, Template, Argument, Filter, Test, Operand}
 use Rattle.tera_outline.specs.declared.completions.Completion.{Completion}
@@ -73,8 +73,10 @@ test_slot last end (p ∷ ps) = if is_not p.token then spaced_slot Test last p.e
 abbrev pub operand_words : List (List ℕ)
 operand_words = codes "and" ∷ codes "or" ∷ codes "not" ∷ codes "in" ∷ codes "if" ∷ codes "else" ∷ []
 
+-- .. after a word of an expression; a word after a dot is a field
 abbrev pub word_place : ℕ → Before → ℕ → List ℕ → List Part → Option Slot
 word_place last Tag end word ps = word_slot last end word ps
+word_place last Dot end word ps = None
 word_place last before end word ps =
     if bytes_eq word (codes "is") then test_slot last end ps
     else (if is_one_of operand_words word then spaced_slot Operand last end ps

@@ -10,4 +10,5 @@ pub mod Opened
 pub mod Pieces
 pub mod Runs
 pub mod SemanticTokens
+pub mod Signatures
 pub mod Symbols

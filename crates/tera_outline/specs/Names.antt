@@ -9,7 +9,7 @@ use Rattle.tera_outline.specs.declared.names.NameKind.{NameKind}
 use Rattle.tera_outline.specs.declared.names.NameKind.TheVariants.{Called, Closed, Defined, Extended, Included}
 use Rattle.tera_outline.specs.declared.names.Name.{Name}
 use Rattle.tera_outline.specs.declared.names.Before.{Before}
-use Rattle.tera_outline.specs.declared.names.Before.TheVariants.{Tag, Operand, Slash, Other}
+use Rattle.tera_outline.specs.declared.names.Before.TheVariants.{Tag, Operand, Slash, Dot, Other}
 use Rattle.tera_outline.specs.declared.names.Found.{Found}
 use Rattle.tera_outline.specs.Pieces.{Part, part_of}
 use Rattle.tera_outline.specs.Dotted.{dotted, text_of, start_of, end_of}
@@ -42,6 +42,11 @@ no_operands = codes "if" ∷ codes "else" ∷ codes "elif" ∷ codes "filter" �
 abbrev pub after_word : List ℕ → Before
 after_word word = if is_one_of no_operands word then Other else Operand
 
+-- .. unless they are fields
+abbrev pub after_name : Before → List ℕ → Before
+after_name Dot word = Operand
+after_name before word = after_word word
+
 -- after a slash a `>` ends the call of a component
 abbrev pub after_greater : Before → Before
 after_greater Slash = Operand
@@ -51,14 +56,15 @@ abbrev pub after_operator : Before → List ℕ → Before
 after_operator before op =
     if is_one_of (codes ")" ∷ codes "]" ∷ codes "}" ∷ []) op then Operand
     else (if bytes_eq op (codes "/") then Slash
+    else (if is_one_of (codes "." ∷ codes "?." ∷ []) op then Dot
     else (if bytes_eq op (codes ">") then after_greater before
-    else Other))
+    else Other)))
 
--- what a token is to the one after it: the start of a statement's tag, what may be the end of an operand, a slash, or
--- something else
+-- what a token is to the one after it: the start of a statement's tag, what may be the end of an operand, a slash, a
+-- dot, or something else
 abbrev pub after_token : Before → Tok → Before
 after_token before (Start Block dash) = Tag
-after_token before (Ident word) = after_word word
+after_token before (Ident word) = after_name before word
 after_token before (Str text) = Operand
 after_token before (Escaped text) = Operand
 after_token before (Integer n) = Operand

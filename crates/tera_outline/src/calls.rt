@@ -24,22 +24,20 @@ pub struct InCall<'a> {
 }
 
 /// The call in which the byte is of a text that is in these pieces and ends at `last`: after the name of the component
-/// and before its end.
+/// and before its end. Of calls within one another it is the innermost.
 pub fn call_at<'a>(pieces: &[Piece<'a>], last: usize, byte: usize) -> Option<InCall<'a>>
     ensures { option_map in_call_view result ≡ specs.call_at last byte (map part_of pieces.now) }
 {
     let mut before = Before::Other;
+    let mut found = None;
     let mut rest = pieces;
     'pieces: while let [piece, following @ ..] = rest {
-        if begins_call(before, &piece.token) {
-            if let Some(stretch) = stretch_called(last, following, byte) {
-                return Some(stretch.place());
-            }
-        }
+        found = stretch_after(last, byte, before, piece, following).or(found);
         before = after_token(before, &piece.token);
         rest = following;
     }
-    None
+    let stretch = found?;
+    Some(stretch.place())
 }
 
 // A part of a call, between two bytes.
@@ -65,6 +63,24 @@ impl<'a> Stretch<'a> {
         ensures { result ≡ specs.holds byte (stretch_view self.entry) }
     {
         self.from <= byte && byte <= self.end
+    }
+}
+
+// The part at the byte of the call that the piece begins before the byte, if it begins one.
+fn stretch_after<'a>(
+    last: usize,
+    byte: usize,
+    before: Before,
+    piece: &Piece<'a>,
+    following: &[Piece<'a>],
+) -> Option<Stretch<'a>>
+    ensures { option_map stretch_view result
+        ≡ specs.stretch_after last byte before (part_of piece.now) (map part_of following.now) }
+{
+    if piece.start < byte && begins_call(before, &piece.token) {
+        stretch_called(last, following, byte)
+    } else {
+        None
     }
 }
 

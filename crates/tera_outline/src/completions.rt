@@ -302,7 +302,7 @@ fn slot_after(
     }
 }
 
-// The place of a name after a word that ends with the byte.
+// The place of a name after a word that ends with the byte, which is not a field.
 fn word_place(
     last: usize,
     before: Before,
@@ -314,6 +314,9 @@ fn word_place(
 {
     if matches!(before, Before::Tag) {
         return word_slot(last, end, word, following);
+    }
+    if matches!(before, Before::Dot) {
+        return None;
     }
     match word {
         "is" => test_slot(last, end, following),

@@ -23,7 +23,7 @@ pub fn head_of<'t>(alloc: Global, text: &'t str, name: &str) -> Result<Option<&'
 }
 
 // By the pieces and the symbols of the text.
-fn head_in<'t>(
+pub(crate) fn head_in<'t>(
     text: &'t str,
     pieces: &[Piece<'_>],
     symbols: &[Symbol],
@@ -39,7 +39,7 @@ fn head_in<'t>(
 }
 
 // The first definition of the component among the symbols.
-fn definition_in<'s>(symbols: &'s [Symbol], name: &str) -> Option<&'s Symbol>
+pub(crate) fn definition_in<'s>(symbols: &'s [Symbol], name: &str) -> Option<&'s Symbol>
     ensures { option_map (λ s. outlined s.now) result
         ≡ find (specs.defines name.now) (map outlined symbols.now) }
 {
@@ -52,7 +52,7 @@ fn definition_in<'s>(symbols: &'s [Symbol], name: &str) -> Option<&'s Symbol>
 }
 
 // The end of the last of the pieces that comes after the byte in the same tag; or the byte, where none does.
-fn head_end(byte: usize, pieces: &[Piece<'_>]) -> usize
+pub(crate) fn head_end(byte: usize, pieces: &[Piece<'_>]) -> usize
     ensures { result ≡ specs.head_end byte (map part_of pieces.now) }
 {
     let mut end = byte;

@@ -9,8 +9,8 @@
 //! tokens with their bytes; specs `Dotted` and `Symbols`; `symbols`, the outline; specs `Names`; `names`, what is
 //! called, defined, extended and included; specs `Heads`; `heads`, what the definition of a component begins with;
 //! specs `Completions`; `completions`, what may be typed; specs `Bound`; `bound`, the variables that are bound; specs
-//! `Calls`; `calls`, the call at a place; specs `SemanticTokens`; `semantic_tokens`, what is coloured; `dotted`, which
-//! reads names with dots; `laws`.
+//! `Calls`; `calls`, the call at a place; specs `Signatures`; `signatures`, heads with their parameters; specs
+//! `SemanticTokens`; `semantic_tokens`, what is coloured; `dotted`, which reads names with dots; `laws`.
 #![tactic(auto)]
 
 mod bound;
@@ -23,6 +23,7 @@ pub mod laws;
 mod names;
 mod pieces;
 mod semantic_tokens;
+mod signatures;
 mod symbols;
 
 pub use bound::bound_of;
@@ -33,4 +34,5 @@ pub use heads::head_of;
 pub use names::{Name, NameKind, names_of, under};
 pub use pieces::{Piece, pieces_of};
 pub use semantic_tokens::{SemanticKind, SemanticToken, semantic_tokens_of};
+pub use signatures::{Parameter, Signature, signature_of};
 pub use symbols::{Symbol, SymbolKind, symbols_of};

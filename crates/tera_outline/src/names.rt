@@ -51,7 +51,7 @@ impl Name {
 
 /// The names of components and templates in a text that is in these pieces, in order. A `<` after what may be the end
 /// of an operand compares, and any other begins a call; the words `and`, `or`, `not`, `in`, `is`, `if`, `else`, `elif`
-/// and `filter` are not operands.
+/// and `filter` are not operands, except as fields after a dot.
 pub fn names_of(alloc: Global, pieces: &[Piece<'_>]) -> Result<Vec<Name>, AllocError>
     ensures { IfOk result (λ names. map name_view names.items ≡ names_of (map part_of pieces.now)) }
 {
@@ -86,6 +86,8 @@ pub(crate) enum Before {
     Operand,
     // A slash.
     Slash,
+    // A dot, after which a word is a field.
+    Dot,
     Other,
 }
 
@@ -95,10 +97,12 @@ pub(crate) fn after_token(before: Before, token: &Token<'_>) -> Before
 {
     match token {
         Token::TagStart(_) => Before::Tag,
+        Token::Ident(_) if matches!(before, Before::Dot) => Before::Operand,
         Token::Ident(word) => after_word(word),
         Token::String(_) | Token::Str(_) | Token::Integer(_) | Token::Bool(_) => Before::Operand,
         Token::RightParen | Token::RightBracket | Token::RightBrace => Before::Operand,
         Token::Div => Before::Slash,
+        Token::Dot | Token::QuestionMarkDot => Before::Dot,
         Token::GreaterThan if matches!(before, Before::Slash) => Before::Operand,
         _ => Before::Other,
     }

@@ -12,7 +12,7 @@ use Rattle.tera_check.specs.declared.finding.Finding.{Finding}
 use Rattle.tera_check.specs.declared.levels.Levels.{Levels}
 use Rattle.tera_check.specs.declared.templates.Template.{Template}
 use Rattle.tera_files.specs.declared.reading.Source.{Source}
-use Rattle.tera_fixes.specs.All.{AreSuggestedIn}
+use Rattle.tera_fixes.specs.All.{AreSuggestedIn, are_too_many}
 use Rattle.tera_fixes.specs.Better.{HasFewer}
 use Rattle.tera_fixes.specs.Suggestions.{SuggestionVal}
 use Rattle.tera_program.specs.Fixing.{IsEdited, IsFixOf, IsReadFix, is_corrected}
@@ -25,13 +25,14 @@ pub read_fix : (catalogue : BTreeMap (String Global) Known) (open_text : Bool) (
     → fix.number ≡ number → AreSuggestedIn catalogue t (string_bytes source.text) findings suggestions
     → IsEdited (string_bytes source.text) suggestions (string_bytes fix.text)
     → IsReadFrom marks (string_bytes source.file) (string_bytes fix.text) faults fix.template → HasFewer (known_in catalogue) open_text number fix.template found fix.fewer
-    → IsReadFix catalogue open_text marks faults number t source findings found fix
-read_fix catalogue open_text marks faults number t source findings found suggestions fix numbered are made read fewer =
+    → fix.more ≡ are_too_many findings → IsReadFix catalogue open_text marks faults number t source findings found fix
+read_fix catalogue open_text marks faults number t source findings found suggestions fix numbered are made read fewer more =
     record {
       numbered = numbered;
       corrected = record { suggestions = suggestions; suggested = are; edits = made };
       read = read;
       fewer = fewer;
+      more = more;
     }
 
 pub fix_of_found : (catalogue : BTreeMap (String Global) Known) (open_text : Bool) (marks : Marks) (faults : ℕ) (rules : Levels) (number : ℕ) (t : Template) (source : Source)

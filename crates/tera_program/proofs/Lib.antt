@@ -1,4 +1,5 @@
 pub mod Defaults
+pub mod ExcludedLemmas
 pub mod FixingLemmas
 pub mod Joined
 pub mod ListedLemmas

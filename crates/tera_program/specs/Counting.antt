@@ -1,5 +1,5 @@
 -- The last line, which counts.
-use Rattle.std.specs.Prelude.{ℕ, List, [], ◌++◌, ◌==◌, if◌then◌else◌, codes, decimal}
+use Rattle.std.specs.Prelude.{ℕ, List, [], ◌++◌, Bool, ◌==◌, if◌then◌else◌, codes, decimal}
 use Rattle.terminal_text.specs.Counted.{counted}
 use Rattle.tera_program.specs.declared.counting.Checked.{Checked}
 use Rattle.tera_program.specs.declared.counting.LaidOut.{LaidOut}
@@ -23,11 +23,14 @@ abbrev pub checked_line : Checked → List ℕ
 checked_line c =
     counted c.files (codes "file") ++ (codes " checked, " ++ (findings_text c.findings c.faulty ++ with_count c.unread (codes "could not be read")))
 
--- how much was put right
-abbrev pub fixed_line : ℕ → ℕ → List ℕ
-fixed_line findings files =
+-- how much was put right, and whether another run may put more right
+abbrev pub again_text : Bool → List ℕ
+again_text more = if more then codes ", run again to fix more\n" else codes "\n"
+
+abbrev pub fixed_line : ℕ → ℕ → Bool → List ℕ
+fixed_line findings files more =
     if findings == 0 then codes "nothing fixed\n"
-    else counted findings (codes "finding") ++ (codes " fixed in " ++ (counted files (codes "file") ++ codes "\n"))
+    else counted findings (codes "finding") ++ (codes " fixed in " ++ (counted files (codes "file") ++ again_text more))
 
 abbrev pub listed_line : Listed → List ℕ
 listed_line c =

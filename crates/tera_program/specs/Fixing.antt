@@ -15,7 +15,7 @@ use Rattle.tera_check.specs.declared.finding.Kind.{Kind}
 use Rattle.tera_check.specs.declared.levels.Levels.{Levels}
 use Rattle.tera_check.specs.declared.templates.Template.{Template}
 use Rattle.tera_files.specs.declared.reading.Source.{Source}
-use Rattle.tera_fixes.specs.All.{AreSuggestedIn}
+use Rattle.tera_fixes.specs.All.{AreSuggestedIn, are_too_many}
 use Rattle.tera_fixes.specs.Better.{HasFewer}
 use Rattle.tera_fixes.specs.Edited.{AreAscending, edit_view, edited, edits_if_any}
 use Rattle.tera_fixes.specs.Suggestions.{SuggestionVal}
@@ -49,12 +49,14 @@ pub record IsCorrected (catalogue : BTreeMap (String Global) Known) (t : Templat
   pub edits : IsEdited source suggestions text
 
 -- The text is the source with what is suggested for these findings. It is read as a template that has a tree, and has
--- fewer findings than were found before. Each of them has the message of one of those.
+-- fewer findings than were found before. Each of them has the message of one of those. It is known whether something may
+-- be suggested for more of these findings than it is.
 pub record IsReadFix (catalogue : BTreeMap (String Global) Known) (open_text : Bool) (marks : Marks) (faults number : ℕ) (t : Template) (source : Source) (findings found : List Finding) (fix : Fix) : Type 0 where
   pub numbered : fix.number ≡ number
   pub corrected : IsCorrected catalogue t (string_bytes source.text) findings (string_bytes fix.text)
   pub read : IsReadFrom marks (string_bytes source.file) (string_bytes fix.text) faults fix.template
   pub fewer : HasFewer (known_in catalogue) open_text number fix.template found fix.fewer
+  pub more : fix.more ≡ are_too_many findings
 
 -- .. for those of the findings of the template that are reported and taken. The source is that of its file.
 pub record IsFixOf (catalogue : BTreeMap (String Global) Known) (open_text : Bool) (marks : Marks) (faults : ℕ) (rules : Levels) (number : ℕ) (t : Template) (source : Source) (fix : Fix) : Type 0 where

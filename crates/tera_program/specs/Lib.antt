@@ -2,6 +2,7 @@ pub mod Actions
 pub mod Colours
 pub mod Counting
 pub mod Ends
+pub mod Excluded
 pub mod Fixing
 pub mod Forms
 pub mod Helps

@@ -103,7 +103,8 @@ fn fix<R: Files + Eprint + AllocGlobal>(
 {
     match fix_all(rt, job, reading, all) {
         Ok(fixed) if is_counted(job) => {
-            let is_said = match fixed_line(rt.alloc(), fixed.findings, fixed.files) {
+            let line = fixed_line(rt.alloc(), fixed.findings, fixed.files, fixed.more);
+            let is_said = match line {
                 Ok(line) => put_error(rt, line.as_str()),
                 Err(_) => false,
             };

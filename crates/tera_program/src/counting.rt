@@ -2,7 +2,7 @@
 
 ghost use Rattle.std.specs.Prelude.{◌≡◌, ◌++◌, IfOk, OnOk, string_bytes};
 ghost use Rattle.terminal_text.specs.Counted.{counted};
-ghost use Rattle.tera_program.specs.Counting.{checked_line, fixed_line, laid_out_line, listed_line, findings_text, done_text, left_text, with_count, with_number};
+ghost use Rattle.tera_program.specs.Counting.{again_text, checked_line, fixed_line, laid_out_line, listed_line, findings_text, done_text, left_text, with_count, with_number};
 
 use crate::job::Mode;
 use std::alloc::{AllocError, Global};
@@ -31,9 +31,14 @@ pub(crate) fn checked_line(alloc: Global, counts: Checked) -> Result<String, All
     Ok(line)
 }
 
-/// `3 findings fixed in 2 files`, with a line feed
-pub(crate) fn fixed_line(alloc: Global, findings: usize, files: usize) -> Result<String, AllocError>
-    ensures { IfOk result (λ line. string_bytes line ≡ fixed_line findings files) }
+/// `3 findings fixed in 2 files`, and that another run may fix more, with a line feed
+pub(crate) fn fixed_line(
+    alloc: Global,
+    findings: usize,
+    files: usize,
+    more: bool,
+) -> Result<String, AllocError>
+    ensures { IfOk result (λ line. string_bytes line ≡ fixed_line findings files more) }
 {
     if findings == 0 {
         return String::from_str(alloc, "nothing fixed\n");
@@ -41,8 +46,18 @@ pub(crate) fn fixed_line(alloc: Global, findings: usize, files: usize) -> Result
     let mut line = counted(alloc, findings, "finding")?;
     line.push_str(" fixed in ")?;
     push_counted(alloc, &mut line, files, "file")?;
-    line.push_str("\n")?;
+    line.push_str(again(more))?;
     Ok(line)
+}
+
+fn again(more: bool) -> &'static str
+    ensures { result.now ≡ again_text more }
+{
+    if more {
+        ", run again to fix more\n"
+    } else {
+        "\n"
+    }
 }
 
 fn push_findings(

@@ -185,7 +185,10 @@ in `tera.toml`:
     [rules]
     unused-component = "warning"
 
-Check all files of a site together, or set its root. Then this is reported, if no other file calls `panel`:
+Check all files of a site together, or set its root. A run over some of its files, as in a hook, also reports components
+that only the other files call.
+
+This is reported, if no other file calls `panel`:
 
     {% component box(title: string) %}{{ title }}{% endcomponent %}
     {% component panel(title: string) %}<p>{{ title }}</p>{% endcomponent %}

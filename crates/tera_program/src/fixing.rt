@@ -5,6 +5,8 @@ ghost use Rattle.std.specs.List.{list_any};
 ghost use Rattle.std.specs.Option.{is_some};
 ghost use Rattle.tera_lexer.specs.grammar.Marks.{IsValid, marks_of};
 ghost use Rattle.tera_check.specs.Levels.{level_of};
+ghost use Rattle.tera_fixes.specs.Components.{AreMeanings};
+ghost use Rattle.tera_fixes.specs.Names.{component_names};
 ghost use Rattle.tera_program.specs.Fixing.{IsFixOf, IsReadFix, is_corrected, takes};
 ghost use Rattle.tera_program.specs.Sources.{marks_in};
 
@@ -12,10 +14,11 @@ use crate::job::Check;
 use crate::output::print_unwritten;
 use crate::reading::{Reading, Templates, template_of};
 use std::alloc::{AllocError, Global};
+use std::collections::BTreeMap;
 use std::rt::Files;
 use tera_check::{Catalogue, Finding, Kind, Levels, Template, catalogue_of, findings_of, is_open};
 use tera_files::{Source, replace};
-use tera_fixes::{Suggestion, edited, fewer_in, suggestions_in};
+use tera_fixes::{Meanings, Suggestion, are_too_many, edited, fewer_in, suggestions_by};
 
 /// What was put right.
 #[derive(Clone, Copy, Debug)]
@@ -26,6 +29,8 @@ pub(crate) struct Fixed {
     pub(crate) files: usize,
     /// How many files could not be written.
     pub(crate) failed: usize,
+    /// Whether a file has more findings that may be corrected than are corrected at once.
+    pub(crate) more: bool,
 }
 
 // Another text for a file.
@@ -38,6 +43,8 @@ struct Fix {
     template: Template,
     /// How many findings it has fewer.
     fewer: usize,
+    /// Whether something may be suggested for more findings than it was.
+    more: bool,
 }
 
 /// Writes what is suggested for the files that are checked: for those of the findings that are reported. The templates and
@@ -54,12 +61,14 @@ pub(crate) fn fix_all<R: Files + Eprint + AllocGlobal>(
         findings: 0,
         files: 0,
         failed: 0,
+        more: false,
     };
     for fix in fixes_of(rt.alloc(), job.rules, reading, all)? {
-        let fewer = fix.fewer;
+        let (fewer, more) = (fix.fewer, fix.more);
         if put(rt, fix, all) {
             fixed.findings = fixed.findings.saturating_add(fewer);
             fixed.files = fixed.files.saturating_add(1);
+            fixed.more = fixed.more || more;
         } else {
             fixed.failed = fixed.failed.saturating_add(1);
         }
@@ -116,6 +125,7 @@ fn fixes_of(
         catalogue: &catalogue,
         is_open: !all.unread.is_empty() || all.templates.iter().any(|template| is_open(template)),
     };
+    let mut meanings = BTreeMap::new(alloc);
     let mut fixes = Vec::new(alloc);
     for (number, template) in all.templates.iter().enumerate() {
         if all.checked <= number {
@@ -124,7 +134,17 @@ fn fixes_of(
         let Some(source) = all.sources.get(number) else {
             return Ok(fixes);
         };
-        if let Some(fix) = fix_of(alloc, rules, reading, known, number, template, source)? {
+        let fix = fix_of(
+            alloc,
+            rules,
+            reading,
+            known,
+            &mut meanings,
+            number,
+            template,
+            source,
+        )?;
+        if let Some(fix) = fix {
             fixes.push(fix)?;
         }
     }
@@ -165,13 +185,16 @@ fn fix_of(
     rules: Levels<'_, '_>,
     reading: &Reading,
     known: Known<'_, '_>,
+    meanings: &mut Meanings,
     number: usize,
     template: &Template,
     source: &Source,
 ) -> Result<Option<Fix>, AllocError>
-    requires { IfSome reading.now.markers (λ m. IsValid (marks_of m)) }
-    ensures { IfOk result (λ fix. IfSome fix (IsFixOf known.entry.catalogue.now known.entry.is_open
+    requires markers { IfSome reading.now.markers (λ m. IsValid (marks_of m)) }
+    requires meant { AreMeanings (component_names known.catalogue.now) meanings.old }
+    ensures fix { IfOk result (λ fix. IfSome fix (IsFixOf known.entry.catalogue.now known.entry.is_open
         (marks_in reading.now.markers) reading.now.faults rules.entry number template.now source.now)) }
+    ensures kept { AreMeanings (component_names known.entry.catalogue.now) meanings.new }
 {
     if template.parsed.is_err() || template.file != source.file {
         return Ok(None);
@@ -185,7 +208,7 @@ fn fix_of(
             source,
             found: &found,
         };
-        let fix = fix_by(alloc, reading, known, before, reported.as_slice())?;
+        let fix = fix_by(alloc, reading, known, meanings, before, reported.as_slice())?;
         if fix.is_some() {
             return Ok(fix);
         }
@@ -208,17 +231,27 @@ fn fix_by(
     alloc: Global,
     reading: &Reading,
     known: Known<'_, '_>,
+    meanings: &mut Meanings,
     before: Before<'_>,
     findings: &[&Finding],
 ) -> Result<Option<Fix>, AllocError>
-    requires { IfSome reading.now.markers (λ m. IsValid (marks_of m)) }
-    ensures { IfOk result (λ fix. IfSome fix (IsReadFix known.entry.catalogue.now known.entry.is_open
+    requires markers { IfSome reading.now.markers (λ m. IsValid (marks_of m)) }
+    requires meant { AreMeanings (component_names known.catalogue.now) meanings.old }
+    ensures fix { IfOk result (λ fix. IfSome fix (IsReadFix known.entry.catalogue.now known.entry.is_open
         (marks_in reading.now.markers) reading.now.faults before.entry.number
         before.entry.template.now before.entry.source.now (map (λ f. f.now) findings.now)
         before.entry.found.now.items)) }
+    ensures kept { AreMeanings (component_names known.entry.catalogue.now) meanings.new }
 {
     let old_text = before.source.text.as_str();
-    let suggestions = suggestions_in(alloc, known.catalogue, before.template, old_text, findings)?;
+    let suggestions = suggestions_by(
+        alloc,
+        meanings,
+        known.catalogue,
+        before.template,
+        old_text,
+        findings,
+    )?;
     if !has_any(&suggestions) {
         return Ok(None);
     }
@@ -239,6 +272,7 @@ fn fix_by(
             text,
             template,
             fewer,
+            more: are_too_many(findings),
         })),
         None => Ok(None),
     }

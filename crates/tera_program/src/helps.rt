@@ -3,13 +3,16 @@
 ghost use Rattle.std.specs.Prelude.{◌≡◌, IfOk, map};
 ghost use Rattle.std.specs.Option.{option_map};
 ghost use Rattle.tera_check.specs.Named.{known_in};
+ghost use Rattle.tera_fixes.specs.Components.{AreMeanings};
+ghost use Rattle.tera_fixes.specs.Names.{component_names};
 ghost use Rattle.tera_program.specs.Helps.{AreHelps, AreHelpsIn, IsHelpOf, help_in};
 
 use crate::job::Form;
 use std::alloc::{AllocError, Global};
+use std::collections::BTreeMap;
 use tera_check::{Catalogue, Found, Template, catalogue_of};
 use tera_files::Source;
-use tera_fixes::{Suggestion, suggestions_in};
+use tera_fixes::{Meanings, Suggestion, suggestions_by};
 
 /// Of each template what is suggested for each of its findings.
 pub(crate) type Helps = Vec<Vec<Option<Suggestion>>>;
@@ -42,11 +45,13 @@ fn helps_of(
         AreHelpsIn templates.now.items sources.now all.now helps.items) }
 {
     let catalogue = catalogue_of(alloc, templates)?;
+    let mut meanings = BTreeMap::new(alloc);
     let mut helps = Vec::new(alloc);
     for (number, found) in all.iter().enumerate() {
         let help = help_of(
             alloc,
             &catalogue,
+            &mut meanings,
             templates.get(number),
             sources.get(number),
             found,
@@ -56,16 +61,19 @@ fn helps_of(
     Ok(helps)
 }
 
-// What is suggested for the findings in one template.
+// What is suggested for the findings in one template, by what is meant by the words that were looked for before.
 fn help_of(
     alloc: Global,
     catalogue: &Catalogue<'_>,
+    meanings: &mut Meanings,
     template: Option<&Template>,
     source: Option<&Source>,
     found: &Found<'_>,
 ) -> Result<Vec<Option<Suggestion>>, AllocError>
-    ensures { IfOk result (IsHelpOf catalogue.now (option_map (λ t. t.now) template.entry)
+    requires { AreMeanings (component_names catalogue.now) meanings.old }
+    ensures help { IfOk result (IsHelpOf catalogue.now (option_map (λ t. t.now) template.entry)
         (option_map (λ s. s.now) source.entry) found.now) }
+    ensures kept { AreMeanings (component_names catalogue.now) meanings.new }
 {
     let (Some(template), Some(source)) = (template, source) else {
         return Ok(Vec::new(alloc));
@@ -75,7 +83,14 @@ fn help_of(
         findings.push(finding)?;
     }
     let text = source.text.as_str();
-    suggestions_in(alloc, catalogue, template, text, findings.as_slice())
+    suggestions_by(
+        alloc,
+        meanings,
+        catalogue,
+        template,
+        text,
+        findings.as_slice(),
+    )
 }
 
 /// The title of what is suggested for the finding of a number in the template of a number.

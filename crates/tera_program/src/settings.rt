@@ -356,13 +356,49 @@ pub(crate) fn found_for_folder<R: Files + Input + AllocGlobal>(
 
 fn found_in<R: Files + AllocGlobal>(rt: &R, file: Configured) -> Result<FoundSettings, AllocError> {
     let path = whole_path(rt, file.source.file.as_str())?;
+    let unread = why_unread_between(rt.alloc(), &file)?;
     match site_in(rt, false, file) {
-        Ok(site) => Ok(FoundSettings::Set(path, folder_settings(rt, site)?)),
+        Ok(site) => {
+            let settings = folder_settings(rt, site, unread.is_some())?;
+            Ok(FoundSettings::Set(path, settings, unread))
+        }
         Err(why) => wrong_for(rt, why),
     }
 }
 
-fn folder_settings<R: Files + AllocGlobal>(rt: &R, site: Site) -> Result<FolderSettings, AllocError>
+// That its templates are not read between their markers, where these are not the usual ones.
+fn why_unread_between(alloc: Global, file: &Configured) -> Result<Option<Reason>, AllocError> {
+    if !has_other_markers(alloc, &file.settings)? {
+        return Ok(None);
+    }
+    let message = String::from_str(
+        alloc,
+        "`markers`: templates between other markers are not checked in the editor",
+    )?;
+    match file.wrong(alloc, None, "markers", message) {
+        Unfit::Wrong(wrong) => Ok(Some(reason_of(wrong, Severity::Warning))),
+        _ => Err(AllocError),
+    }
+}
+
+// Whether they are six that can be used, and not the usual ones.
+fn has_other_markers(alloc: Global, settings: &Settings) -> Result<bool, AllocError> {
+    let Some(words) = &settings.markers else {
+        return Ok(false);
+    };
+    match other_markers_of(alloc, Some(words.as_str())) {
+        Ok(others) => Ok(others.is_some()),
+        Err(markers::Unfit::Memory) => Err(AllocError),
+        Err(_) => Ok(false),
+    }
+}
+
+fn folder_settings<R: Files + AllocGlobal>(
+    rt: &R,
+    site: Site,
+    other_markers: bool,
+) -> Result<FolderSettings, AllocError>
+    ensures markers { IfOk result (λ s. s.other_markers ≡ other_markers) }
     ensures rules { IfOk result (λ s. map rule_view s.rules.items ≡ map set_of site.rules.items) }
     ensures exclude { IfOk result (λ s.
         map string_bytes s.exclude.items ≡ or_none (texts_view site.exclude)) }
@@ -382,6 +418,7 @@ fn folder_settings<R: Files + AllocGlobal>(rt: &R, site: Site) -> Result<FolderS
         extensions: without_points(rt.alloc(), &extensions)?,
         libraries: known_paths(rt, &or_empty(rt.alloc(), library))?,
         exclude: or_empty(rt.alloc(), exclude),
+        other_markers,
         rules: rules_of(rt.alloc(), rules.as_slice())?,
         filters: known.filters,
         tests: known.tests,
@@ -437,24 +474,28 @@ fn wrong_for<R: Files + AllocGlobal>(rt: &R, why: Unfit) -> Result<FoundSettings
                 path,
                 Reason {
                     line: None,
+                    severity: Severity::Error,
                     message,
                 },
             ))
         }
         Unfit::Wrong(wrong) => {
             let path = whole_path(rt, wrong.file.as_str())?;
-            Ok(FoundSettings::Wrong(path, reason_of(wrong)))
+            let reason = reason_of(wrong, Severity::Error);
+            Ok(FoundSettings::Wrong(path, reason))
         }
     }
 }
 
-// What is wrong, at a line that is counted from 0.
-fn reason_of(wrong: WrongFile) -> Reason
+// What is wrong, at a line that is counted from 0, and how grave it is.
+fn reason_of(wrong: WrongFile, severity: Severity) -> Reason
     ensures line { result.line ≡ Some (wrong.line - 1) }
+    ensures severity { result.severity ≡ severity }
     ensures message { result.message ≡ wrong.message }
 {
     Reason {
         line: Some(wrong.line.saturating_sub(1)),
+        severity,
         message: wrong.message,
     }
 }

@@ -1,10 +1,9 @@
 -- A server after the steps by which it is given settings.
-use Rattle.std.proofs.Common.{◌≡◌, ◌∙◌, ◌⊎◌, inl, inr, ◌++◌, ◌∷◌, [], ℕ, List, Bool, true, false, cond, length, map, string_bytes, Result, Ok, Err, OnOk, OnErr, Option, None, Some, refl, sym, ap, subst, append_assoc, rules}
+use Rattle.std.proofs.Common.{◌≡◌, ◌∙◌, ◌⊎◌, inl, inr, ◌++◌, ◌∷◌, [], ℕ, List, Bool, true, false, cond, map, string_bytes, Result, Ok, Err, OnOk, OnErr, Option, None, Some, refl, sym, ap, subst, append_assoc, rules}
 use Rattle.std.proofs.Common.{if◌then◌else◌}
-use Rattle.std.proofs.lemmas.Bool.Decides.{Decides-eqb}
-use Rattle.std.proofs.lemmas.List.{append-nil, nil_from_length}
+use Rattle.std.proofs.lemmas.List.{append-nil}
 use Rattle.std.proofs.lemmas.Slice.Eq.{bytes_eq-Decides}
-use Rattle.std.specs.Prelude.{◌&&◌, ◌==◌}
+use Rattle.std.specs.Prelude.{◌&&◌}
 use Rattle.std.specs.List.{list_any}
 use Rattle.std.specs.Option.{option_eq}
 use Rattle.std.specs.Cmp.Lexicographic.{pointwise}
@@ -82,9 +81,6 @@ cond_same false x = refl
 
 -- ---- rules of two lists
 
-pub no_rules : (xs : List RuleSetting) → (length xs == 0) ≡ true → map rule_view xs ≡ []
-no_rules xs is = ap (map rule_view) (nil_from_length xs ((Decides-eqb (length xs) 0).0 is))
-
 abbrev severity_eq : Severity → Severity → Bool
 severity_eq = (severity_test.ghosts).eq
 
@@ -144,7 +140,7 @@ module _ (s a b t : Server) (first : a ≡ record s { unpublished = a.unpublishe
       why = h.why;
     };
     published = elim published [
-      | inl kept ↦ inl (kept.0, ap (λ u. map string_bytes u.items) unpublished_is ∙ kept.1)
+      | inl kept ↦ inl (kept.0, kept.1, ap (λ u. map string_bytes u.items) unpublished_is ∙ kept.2)
       | inr more ↦ inr (ap (λ u. map string_bytes u.items) unpublished_is ∙ more)
     ];
   }

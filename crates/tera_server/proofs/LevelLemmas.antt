@@ -9,7 +9,7 @@ use Rattle.tera_check.specs.Levels as check
 use Rattle.tera_check.specs.declared.finding.Kind.{Kind}
 use Rattle.tera_check.specs.declared.levels.Levels.{Levels}
 use Rattle.tera_check.specs.declared.levels.RuleLevel.{RuleLevel}
-use Rattle.tera_server.specs.Settings.{RuleVal, level_by, level_in, level_view}
+use Rattle.tera_server.specs.Settings.{ByRules, RuleVal, level_by, level_in, level_view}
 
 same_set : (set : List RuleLevel) (kind : Kind) → level_in (map level_view set) kind ≡ check.set_level set kind
 same_set [] kind = refl
@@ -21,6 +21,6 @@ same_set (r ∷ rs) kind = by (is_of kind r) (same_set rs kind)
     by true rest = refl
     by false rest = rest
 
-pub same_level : (levels : Levels) (kind : Kind) → levels.select ≡ None → levels.ignore ≡ None → level_by (Some (map level_view levels.set.now)) kind ≡ level_of levels kind
+pub same_level : (levels : Levels) (kind : Kind) → levels.select ≡ None → levels.ignore ≡ None → level_by (ByRules (map level_view levels.set.now)) kind ≡ level_of levels kind
 same_level levels kind unselected unignored =
     rw (unselected, unignored) (ap (λ set. if is_fault kind then Some (severity_of kind) else set) (same_set levels.set.now kind))

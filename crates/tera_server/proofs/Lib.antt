@@ -10,6 +10,7 @@ pub mod HandleLemmas
 pub mod KnownLemmas
 pub mod LayoutLemmas
 pub mod LevelLemmas
+pub mod ListLemmas
 pub mod NameLemmas
 pub mod NearestLemmas
 pub mod NeedLemmas
@@ -18,6 +19,7 @@ pub mod PublishLemmas
 pub mod ReferenceLemmas
 pub mod RequestLemmas
 pub mod SelectionLemmas
+pub mod SignatureLemmas
 pub mod StepLemmas
 pub mod Tails
 pub mod TemplateNames

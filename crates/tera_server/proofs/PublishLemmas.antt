@@ -1,18 +1,23 @@
 -- Messages that are sent of documents, one after another.
-use Rattle.std.proofs.Common.{◌≡◌, Vec, Result, Ok, Err, OnErr, ◌∙◌, ◌<◌, ◌≤◌, ◌+◌, ◌++◌, ◌∷◌, [], ◌⊎◌, inl, inr, ◌||◌, ℕ, List, String, string_bytes, length, get_or, take, drop, map, Bool, true, false, if◌then◌else◌, cond, not, refl, sym, ap, subst, append_assoc}
-use Rattle.std.specs.List.{list_any}
+use Rattle.std.proofs.Common.{◌≡◌, Bor, Vec, Result, Ok, Err, OnErr, ◌∙◌, ◌<◌, ◌≤◌, ◌+◌, ◌++◌, ◌∷◌, [], ◌⊎◌, inl, inr, ◌||◌, ℕ, List, String, string_bytes, length, get_or, take, drop, map, Bool, true, false, if◌then◌else◌, cond, refl, sym, ap, subst, append_assoc}
+use Rattle.std.specs.BTreeSet.{BTreeSet, UpdatesBy}
+use Rattle.std.specs.Cmp.Lexicographic.{slice_cmp}
+use Rattle.std.specs.Ordering.{nat_cmp}
 use Rattle.std.specs.Str.{bytes_eq}
 use Rattle.std.specs.declared.alloc.Global.{Global}
+use Rattle.std.proofs.lemmas.Bool.{false≢true}
 use Rattle.std.proofs.lemmas.List.{append-nil, map-append, take_more, take_all, take-append-drop}
 use Rattle.std.proofs.lemmas.List.Concat.{flat_map-append}
-use Rattle.std.proofs.lemmas.List.Elements.{filter-append}
+use Rattle.std.proofs.lemmas.Map.Text.{is_eq-slice_cmp}
 use Rattle.std.proofs.lemmas.Slice.Eq.{bytes_eq-Decides}
 use Rattle.json_rpc.specs.Outgoing.{Outgoing, more}
-use Rattle.tera_workspace.specs.Names.{is_among}
+use Rattle.tera_workspace.specs.Definitions.{AreRead}
+use Rattle.tera_workspace.specs.Names.{is_among, contains_name}
 use Rattle.tera_workspace.specs.Workspaces.{reported_of_name, IsKept, IsSettled, AreOthers}
 use Rattle.tera_workspace.specs.declared.workspace.Workspace.{Workspace}
+use Rattle.tera_workspace.proofs.NameSets.{among_append}
 use Rattle.tera_server.specs.Editors.{state_of}
-use Rattle.tera_server.specs.Sending.{with_all, found_message, unless_lost, messages_in, publisher_of, Publisher, SendsFirst, names_beside}
+use Rattle.tera_server.specs.Sending.{with_all, found_message, unless_lost, messages_in, publisher_of, Publisher, SendsFirst, names_once}
 use Rattle.tera_server.specs.Settling.{due_of, ArePublished, ArePublishedInPart}
 use Rattle.tera_server.specs.declared.editor.DocumentState.{DocumentState}
 use Rattle.tera_server.specs.declared.editor.DocumentState.TheVariants.{Open, Lost, Closed}
@@ -31,17 +36,9 @@ pub with_twice : (o : Outgoing) (a b : List (List ℕ)) → with_all (with_all o
 unfolding sent_as
 with_twice o a b = ap (sent_as o.reserved) (append_assoc o.sent a b)
 
--- messages of documents that are those of the first ones, and then those of the others
-abbrev pub Joins : (List (List ℕ) → List (List ℕ)) → Type 0
-Joins messages = (xs ys : List (List ℕ)) → messages (xs ++ ys) ≡ messages xs ++ messages ys
-
-pub messages_join : (p : Publisher) (w : Workspace) → Joins (messages_in p w)
+-- the messages of some documents, and then those of others
+pub messages_join : (p : Publisher) (w : Workspace) (xs ys : List (List ℕ)) → messages_in p w (xs ++ ys) ≡ messages_in p w xs ++ messages_in p w ys
 messages_join p w xs ys = flat_map-append (λ n. unless_lost (state_of p.editor n) (found_message p w n)) xs ys
-
-pub beside_join : (p : Publisher) (w : Workspace) (others : List (List ℕ)) → Joins (λ ns. messages_in p w (names_beside others ns))
-beside_join p w others xs ys =
-    ap (messages_in p w) (filter-append (λ n. not (is_among n others)) xs ys)
-    ∙ messages_join p w (names_beside others xs) (names_beside others ys)
 
 -- the message of one document, unless it is open with a text that is not known
 pub one_sent : (p : Publisher) (w : Workspace) (n m : List ℕ) (o : Outgoing) → (state_of p.editor n ≡ Open) ⊎ (state_of p.editor n ≡ Closed) → m ≡ found_message p w n
@@ -52,19 +49,6 @@ one_sent p w n m o sound is = by (state_of p.editor n) sound
     by Open h = ap (more o) is
     by Lost h = absurd (elim h [ inl e ↦ cc | inr e ↦ cc ])
     by Closed h = ap (more o) is
-
--- one document more
-pub sends_next : (messages : List (List ℕ) → List (List ℕ)) → Joins messages → (names : List (String Global)) (i : ℕ) (name : String Global) (start now next : Outgoing) →
-    i < length names → name ≡ get_or names i name → now ≡ with_all start (messages (map string_bytes (take i names))) → next ≡ with_all now (messages (string_bytes name ∷ [])) →
-    next ≡ with_all start (messages (map string_bytes (take (i + 1) names)))
-sends_next messages joins names i name start now next within is before more =
-    let front = map string_bytes (take i names) in
-    let longer : take (i + 1) names ≡ take i names ++ name ∷ [] = take_more names i name within ∙ ap (λ n. take i names ++ n ∷ []) (sym is) in
-    let mapped : map string_bytes (take (i + 1) names) ≡ front ++ string_bytes name ∷ [] = ap (map string_bytes) longer ∙ map-append string_bytes (take i names) (name ∷ []) in
-    more
-    ∙ ap (λ o. with_all o (messages (string_bytes name ∷ []))) before
-    ∙ with_twice start (messages front) (messages (string_bytes name ∷ []))
-    ∙ ap (with_all start) (sym (ap messages mapped ∙ joins front (string_bytes name ∷ [])))
 
 pub sends_all : (messages : List (List ℕ) → List (List ℕ)) (names : List (String Global)) (i : ℕ) (start now : Outgoing) →
     length names ≤ i → now ≡ with_all start (messages (map string_bytes (take i names))) → now ≡ with_all start (messages (map string_bytes names))
@@ -80,14 +64,6 @@ sends_first messages names i start now e = (
 )
 
 -- ---- names among others
-
-pub any_among : (n : List ℕ) (ns : List (List ℕ)) → list_any (λ m. bytes_eq m n) ns ≡ is_among n ns
-any_among n [] = refl
-any_among n (m ∷ ms) = by (bytes_eq m n) (any_among n ms)
-  where
-    by : (b : Bool) → list_any (λ m. bytes_eq m n) ms ≡ is_among n ms → (b || list_any (λ m. bytes_eq m n) ms) ≡ (if b then true else is_among n ms)
-    by true e = refl
-    by false e = e
 
 pub among_left : (n : List ℕ) (xs ys : List (List ℕ)) → is_among n xs ≡ true → is_among n (xs ++ ys) ≡ true
 among_left n [] ys h = absurd (cc)
@@ -126,51 +102,145 @@ is_head n m h = by (bytes_eq m n) h
     by true e = refl
     by false e = e
 
--- by whether the first is left out
-among_kept : (left_out : Bool) (n m : List ℕ) (ms : List (List ℕ)) → is_among n (cond (not left_out) (m ∷ ms) ms) ≡ true → (is_among n (m ∷ []) ≡ true) ⊎ (is_among n ms ≡ true)
-among_kept true n m ms h = inr h
-among_kept false n m ms h = among_either n (m ∷ []) ms h
+-- ---- names that are not among others, each once
 
-tail_kept : (left_out : Bool) (n m : List ℕ) (ms : List (List ℕ)) → is_among n ms ≡ true → is_among n (cond (not left_out) (m ∷ ms) ms) ≡ true
-tail_kept true n m ms h = h
-tail_kept false n m ms h = tail_among n m ms h
+pub or_false : (b : Bool) → (b || false) ≡ b
+or_false true = refl
+or_false false = refl
 
-head_kept : (left_out : Bool) (n m : List ℕ) (others ms : List (List ℕ)) → (left_out ≡ true → is_among n others ≡ true) → bytes_eq m n ≡ true →
-    (is_among n (cond (not left_out) (m ∷ ms) ms) ≡ true) ⊎ (is_among n others ≡ true)
-head_kept true n m others ms f e = inr (f refl)
-head_kept false n m others ms f e = inl (head_among n m ms e)
+-- a name, unless it is among others
+abbrev pub unless : Bool → List ℕ → List (List ℕ)
+unless among n = if among then [] else n ∷ []
 
-pub among_beside : (n : List ℕ) (others ns : List (List ℕ)) → is_among n (names_beside others ns) ≡ true → is_among n ns ≡ true
-among_beside n others [] h = h
-among_beside n others (m ∷ ms) h =
-    elim (among_kept (is_among m others) n m (names_beside others ms) h) [ inl e ↦ head_among n m ms (is_head n m e) | inr e ↦ tail_among n m ms (among_beside n others ms e) ]
+-- a name that is equal to one of some is among them
+same_among : (same among rest : Bool) → (same ≡ true → among ≡ true) → (among || rest) ≡ (among || (if same then true else rest))
+same_among same true rest f = refl
+same_among true false rest f = absurd (false≢true (f refl))
+same_among false false rest f = refl
 
-pub beside_or_among : (n : List ℕ) (others ns : List (List ℕ)) → is_among n ns ≡ true → (is_among n (names_beside others ns) ≡ true) ⊎ (is_among n others ≡ true)
-beside_or_among n others [] h = absurd (cc)
-beside_or_among n others (m ∷ ms) h =
-    let left_out = is_among m others in
-    let rest = names_beside others ms in
-    elim (among_either n (m ∷ []) ms h) [
-      | inl e ↦ head_kept left_out n m others rest (λ q. subst (λ k. is_among k others ≡ true) ((bytes_eq-Decides m n).0 (is_head n m e)) q) (is_head n m e)
-      | inr e ↦ elim (beside_or_among n others ms e) [ inl r ↦ inl (tail_kept left_out n m rest r) | inr r ↦ inr r ]
+moved_among : (same among rest : Bool) → ((if same then true else among) || rest) ≡ (among || (if same then true else rest))
+moved_among true true rest = refl
+moved_among true false rest = refl
+moved_among false among rest = refl
+
+-- a name that comes after some is there unless it is one of these, or of the others
+pub once_more : (others xs : List (List ℕ)) (n : List ℕ) →
+    names_once others (xs ++ n ∷ []) ≡ names_once others xs ++ unless (is_among n others || is_among n xs) n
+once_more others [] n = ap (λ b. unless b n) (sym (or_false (is_among n others)))
+once_more others (x ∷ xs) n = by (is_among x others) refl (once_more others xs n) (once_more (x ∷ others) xs n)
+  where
+    by : (b : Bool) → is_among x others ≡ b → names_once others (xs ++ n ∷ []) ≡ names_once others xs ++ unless (is_among n others || is_among n xs) n
+        → names_once (x ∷ others) (xs ++ n ∷ []) ≡ names_once (x ∷ others) xs ++ unless (is_among n (x ∷ others) || is_among n xs) n
+        → (if b then names_once others (xs ++ n ∷ []) else x ∷ names_once (x ∷ others) (xs ++ n ∷ []))
+        ≡ (if b then names_once others xs else x ∷ names_once (x ∷ others) xs) ++ unless (is_among n others || is_among n (x ∷ xs)) n
+    by true is f g =
+        f
+        ∙ ap (λ b. names_once others xs ++ unless b n)
+        (same_among (bytes_eq x n) (is_among n others) (is_among n xs) (λ e. subst (λ k. is_among k others ≡ true) ((bytes_eq-Decides x n).0 e) is))
+    by false is f g =
+        ap (λ ns. x ∷ ns) g
+        ∙ ap (λ b. x ∷ (names_once (x ∷ others) xs ++ unless b n)) (moved_among (bytes_eq x n) (is_among n others) (is_among n xs))
+
+pub among_once : (n : List ℕ) (others ns : List (List ℕ)) → is_among n (names_once others ns) ≡ true → is_among n ns ≡ true
+among_once n others [] h = h
+among_once n others (m ∷ ms) h = by (is_among m others) h (among_once n others ms) (among_once n (m ∷ others) ms)
+  where
+    by : (b : Bool) → is_among n (if b then names_once others ms else m ∷ names_once (m ∷ others) ms) ≡ true
+        → (is_among n (names_once others ms) ≡ true → is_among n ms ≡ true) → (is_among n (names_once (m ∷ others) ms) ≡ true → is_among n ms ≡ true)
+        → is_among n (m ∷ ms) ≡ true
+    by true h f g = tail_among n m ms (f h)
+    by false h f g =
+        elim (among_either n (m ∷ []) (names_once (m ∷ others) ms) h) [
+          | inl e ↦ head_among n m ms (is_head n m e)
+          | inr e ↦ tail_among n m ms (g e)
+        ]
+
+pub once_or_among : (n : List ℕ) (others ns : List (List ℕ)) → is_among n ns ≡ true → (is_among n (names_once others ns) ≡ true) ⊎ (is_among n others ≡ true)
+once_or_among n others [] h = absurd (cc)
+once_or_among n others (m ∷ ms) h = by (is_among m others) refl (among_either n (m ∷ []) ms h) (once_or_among n others ms) (once_or_among n (m ∷ others) ms)
+  where
+    by : (b : Bool) → is_among m others ≡ b → (is_among n (m ∷ []) ≡ true) ⊎ (is_among n ms ≡ true)
+        → (is_among n ms ≡ true → (is_among n (names_once others ms) ≡ true) ⊎ (is_among n others ≡ true))
+        → (is_among n ms ≡ true → (is_among n (names_once (m ∷ others) ms) ≡ true) ⊎ (is_among n (m ∷ others) ≡ true))
+        → (is_among n (if b then names_once others ms else m ∷ names_once (m ∷ others) ms) ≡ true) ⊎ (is_among n others ≡ true)
+    by true is which f g = elim which [
+      | inl e ↦ inr (subst (λ k. is_among k others ≡ true) ((bytes_eq-Decides m n).0 (is_head n m e)) is)
+      | inr e ↦ f e
+    ]
+    by false is which f g = elim which [
+      | inl e ↦ inl (head_among n m (names_once (m ∷ others) ms) (is_head n m e))
+      | inr e ↦ elim (g e) [
+        | inl q ↦ inl (tail_among n m (names_once (m ∷ others) ms) q)
+        | inr q ↦ elim (among_either n (m ∷ []) others q) [
+          | inl k ↦ inl (head_among n m (names_once (m ∷ others) ms) (is_head n m k))
+          | inr k ↦ inr k
+        ]
+      ]
     ]
 
--- .. one name
-pub beside_one : (n : List ℕ) (others : List (List ℕ)) → is_among n others ≡ true → names_beside others (n ∷ []) ≡ []
-beside_one n others e = ap (λ b. cond (not b) (n ∷ []) []) e
+-- ---- documents one by one
 
-pub beside_none : (n : List ℕ) (others : List (List ℕ)) → is_among n others ≡ false → names_beside others (n ∷ []) ≡ n ∷ []
-beside_none n others e = ap (λ b. cond (not b) (n ∷ []) []) e
+-- the names so far, and one more
+next_names : (names : List (String Global)) (i : ℕ) (name : String Global) → i < length names → name ≡ get_or names i name
+    → map string_bytes (take (i + 1) names) ≡ map string_bytes (take i names) ++ string_bytes name ∷ []
+next_names names i name within is =
+    ap (map string_bytes) (take_more names i name within ∙ ap (λ n. take i names ++ n ∷ []) (sym is)) ∙ map-append string_bytes (take i names) (name ∷ [])
 
--- .. beside none
-pub beside_nothing : (ns : List (List ℕ)) → names_beside [] ns ≡ ns
-beside_nothing [] = refl
-beside_nothing (n ∷ ns) = ap (λ ms. n ∷ ms) (beside_nothing ns)
+-- a set that has the others and the names so far
+abbrev pub Names : Type 0
+Names = BTreeSet (Bor (List ℕ))
 
-pub first_beside_nothing : (p : Publisher) (w : Workspace) (ns : List (List ℕ)) (old now : Outgoing) → SendsFirst (λ xs. messages_in p w (names_beside [] xs)) ns old now
-    → SendsFirst (messages_in p w) ns old now
-first_beside_nothing p w ns old now (first, rest, whole, sent) =
-    (first, rest, whole, sent ∙ ap (λ xs. with_all old (messages_in p w xs)) (beside_nothing first))
+abbrev pub HasDone : List (List ℕ) → List (List ℕ) → Names → Type 0
+HasDone others ns done = (n : List ℕ) → contains_name done n ≡ (is_among n others || is_among n ns)
+
+-- .. that has one name more
+pub inserted : (old now : Names) (key : Bor (List ℕ)) (name : List ℕ) → key.now ≡ name → UpdatesBy (λ x y. slice_cmp nat_cmp x.now y.now) (λ k. slice_cmp nat_cmp key.now k.now) old now true
+    → (n : List ℕ) → contains_name now n ≡ cond (bytes_eq name n) true (contains_name old n)
+inserted old now key name same h n =
+    h.0 (record { ref_ptr = (0, 0); now = n }) ∙ ap (λ b. cond b true (contains_name old n)) (is_eq-slice_cmp key.now n ∙ ap (λ m. bytes_eq m n) same)
+
+-- .. or had it
+pub had : (done : Names) (name : List ℕ) → contains_name done name ≡ true → (n : List ℕ) → contains_name done n ≡ cond (bytes_eq name n) true (contains_name done n)
+had done name is n = by (bytes_eq name n) (λ e. subst (λ m. contains_name done m ≡ true) ((bytes_eq-Decides name n).0 e) is)
+  where
+    by : (b : Bool) → (b ≡ true → contains_name done n ≡ true) → contains_name done n ≡ cond b true (contains_name done n)
+    by true f = f refl
+    by false f = refl
+
+among_next : (same among front : Bool) → cond same true (among || front) ≡ (among || (front || (if same then true else false)))
+among_next true true front = refl
+among_next true false true = refl
+among_next true false false = refl
+among_next false true front = refl
+among_next false false true = refl
+among_next false false false = refl
+
+pub done_next : (others : List (List ℕ)) (names : List (String Global)) (i : ℕ) (name : String Global) (old now : Names) → i < length names → name ≡ get_or names i name
+    → HasDone others (map string_bytes (take i names)) old → ((n : List ℕ) → contains_name now n ≡ cond (bytes_eq (string_bytes name) n) true (contains_name old n))
+    → HasDone others (map string_bytes (take (i + 1) names)) now
+done_next others names i name old now within is has then_has n =
+    let front = map string_bytes (take i names) in
+    then_has n
+    ∙ ap (λ b. cond (bytes_eq (string_bytes name) n) true b) (has n)
+    ∙ among_next (bytes_eq (string_bytes name) n) (is_among n others) (is_among n front)
+    ∙ ap (λ b. is_among n others || b) (sym (ap (is_among n) (next_names names i name within is) ∙ among_append n front (string_bytes name ∷ [])))
+
+-- what is sent of one document more
+pub sends_next : (p : Publisher) (w : Workspace) (others : List (List ℕ)) (names : List (String Global)) (i : ℕ) (name : String Global) (start now next : Outgoing)
+    → i < length names → name ≡ get_or names i name → now ≡ with_all start (messages_in p w (names_once others (map string_bytes (take i names))))
+    → (among : Bool) → among ≡ (is_among (string_bytes name) others || is_among (string_bytes name) (map string_bytes (take i names)))
+    → next ≡ with_all now (messages_in p w (unless among (string_bytes name)))
+    → next ≡ with_all start (messages_in p w (names_once others (map string_bytes (take (i + 1) names))))
+sends_next p w others names i name start now next within is before among known more =
+    let front = map string_bytes (take i names) in
+    let n = string_bytes name in
+    let here = is_among n others || is_among n front in
+    more
+    ∙ ap (λ b. with_all now (messages_in p w (unless b n))) known
+    ∙ ap (λ o. with_all o (messages_in p w (unless here n))) before
+    ∙ with_twice start (messages_in p w (names_once others front)) (messages_in p w (unless here n))
+    ∙ ap (with_all start) (sym (messages_join p w (names_once others front) (unless here n)))
+    ∙ ap (λ ns. with_all start (messages_in p w ns)) (sym (ap (names_once others) (next_names names i name within is) ∙ once_more others front n))
 
 -- where the list that is reported is another, a name is among those of which it is
 pub is_other : {A : Type 0} (before now : List ℕ → List A) (names : List (List ℕ)) (n : List ℕ) → (is_among n names ≡ false → now n ≡ before n) → (now n ≡ before n → ⊥) → is_among n names ≡ true
@@ -182,18 +252,18 @@ is_other before now names n same differs = by (is_among n names) same
 
 -- ---- what is published in part
 
-abbrev pub Names : Type 0
-Names = Vec (String Global) Global
+abbrev pub NameList : Type 0
+NameList = Vec (String Global) Global
 
-abbrev pub names_of : Names → List (List ℕ)
+abbrev pub names_of : NameList → List (List ℕ)
 names_of v = map string_bytes v.items
 
 -- the server after that, when w was found: what is to be published is something else
-abbrev pub with_found : Server → Workspace → Names → Names → Server
+abbrev pub with_found : Server → Workspace → NameList → NameList → Server
 with_found s w unpublished edited = record s { workspace = w; unpublished = unpublished; edited = edited }
 
 -- none of those that were due were published, and nothing else is reported than before
-pub part_none : (s : Server) (w : Workspace) (unpublished due : Names) (old : Outgoing) → names_of due ≡ due_of s → ((n : List ℕ) → reported_of_name w n ≡ reported_of_name s.workspace n) →
+pub part_none : (s : Server) (w : Workspace) (unpublished due : NameList) (old : Outgoing) → names_of due ≡ due_of s → ((n : List ℕ) → reported_of_name w n ≡ reported_of_name s.workspace n) →
     ArePublishedInPart s (with_found s w unpublished due) old old
 part_none s w unpublished due old is same = record {
   names = [];
@@ -204,62 +274,64 @@ part_none s w unpublished due old is same = record {
 }
 
 -- some of those that were due were published
-pub part_due : (s : Server) (w : Workspace) (others due : Names) (old now : Outgoing) → names_of due ≡ due_of s →
+pub part_due : (s : Server) (w : Workspace) (others due : NameList) (old now : Outgoing) → names_of due ≡ due_of s →
     (IsKept s.workspace → AreOthers (names_of others) (reported_of_name s.workspace) (reported_of_name w)) →
-    SendsFirst (λ ns. messages_in (publisher_of s) w (names_beside (names_of others) ns)) (names_of due) old now →
+    SendsFirst (λ ns. messages_in (publisher_of s) w (names_once (names_of others) ns)) (names_of due) old now →
     ArePublishedInPart s (with_found s w others due) old now
 part_due s w others due old now is are (first, rest, whole, sent) = record {
-  names = names_beside (names_of others) first;
+  names = names_once (names_of others) first;
   sent = sent;
   others = λ kept n differs. is_other (reported_of_name s.workspace) (reported_of_name w) (names_of others) n ((are kept).same n) differs;
   due = λ n h. inr (among_left n (names_of due) (names_of others) (subst (λ ns. is_among n ns ≡ true) (sym is) h));
-  only = λ n h. inl (subst (λ ns. is_among n ns ≡ true) (sym whole ∙ is) (among_left n first rest (among_beside n (names_of others) first h)));
+  only = λ n h. inl (subst (λ ns. is_among n ns ≡ true) (sym whole ∙ is) (among_left n first rest (among_once n (names_of others) first h)));
 }
 
 -- in two parts
-joined : (s : Server) (w : Workspace) (old next now : Outgoing) (beside others : List (List ℕ)) →
-    next ≡ with_all old (messages_in (publisher_of s) w beside) → now ≡ with_all next (messages_in (publisher_of s) w others) →
-    now ≡ with_all old (messages_in (publisher_of s) w (beside ++ others))
-joined s w old next now beside others more sent =
+joined : (s : Server) (w : Workspace) (old next now : Outgoing) (due others : List (List ℕ)) →
+    next ≡ with_all old (messages_in (publisher_of s) w due) → now ≡ with_all next (messages_in (publisher_of s) w others) →
+    now ≡ with_all old (messages_in (publisher_of s) w (due ++ others))
+joined s w old next now due others more sent =
     let messages = messages_in (publisher_of s) w in
     sent
     ∙ ap (λ o. with_all o (messages others)) more
-    ∙ with_twice old (messages beside) (messages others)
-    ∙ ap (with_all old) (sym (messages_join (publisher_of s) w beside others))
+    ∙ with_twice old (messages due) (messages others)
+    ∙ ap (with_all old) (sym (messages_join (publisher_of s) w due others))
 
 -- .. all of them, and some of those of which something else is reported
-pub part_others : (s : Server) (w : Workspace) (others edited : Names) (old next now : Outgoing) →
+pub part_others : (s : Server) (w : Workspace) (others edited : NameList) (old next now : Outgoing) →
     (IsKept s.workspace → AreOthers (names_of others) (reported_of_name s.workspace) (reported_of_name w)) →
-    next ≡ with_all old (messages_in (publisher_of s) w (names_beside (names_of others) (due_of s))) →
-    SendsFirst (messages_in (publisher_of s) w) (names_of others) next now →
+    next ≡ with_all old (messages_in (publisher_of s) w (names_once (names_of others) (due_of s))) →
+    SendsFirst (λ ns. messages_in (publisher_of s) w (names_once [] ns)) (names_of others) next now →
     ArePublishedInPart s (with_found s w others edited) old now
 part_others s w others edited old next now are more (first, rest, whole, sent) =
-    let beside = names_beside (names_of others) (due_of s) in
+    let all = names_once (names_of others) (due_of s) in
+    let some = names_once [] first in
     record {
-      names = beside ++ first;
-      sent = joined s w old next now beside first more sent;
+      names = all ++ some;
+      sent = joined s w old next now all some more sent;
       others = λ kept n differs. is_other (reported_of_name s.workspace) (reported_of_name w) (names_of others) n ((are kept).same n) differs;
-      due = λ n h. elim (beside_or_among n (names_of others) (due_of s) h) [
-        | inl e ↦ inl (among_left n beside first e)
+      due = λ n h. elim (once_or_among n (names_of others) (due_of s) h) [
+        | inl e ↦ inl (among_left n all some e)
         | inr e ↦ inr (among_right n (names_of edited) (names_of others) e)
       ];
-      only = λ n h. elim (among_either n beside first h) [
-        | inl e ↦ inl (among_beside n (names_of others) (due_of s) e)
-        | inr e ↦ inr (subst (λ ns. is_among n ns ≡ true) (sym whole) (among_left n first rest e))
+      only = λ n h. elim (among_either n all some h) [
+        | inl e ↦ inl (among_once n (names_of others) (due_of s) e)
+        | inr e ↦ inr (subst (λ ns. is_among n ns ≡ true) (sym whole) (among_left n first rest (among_once n [] first e)))
       ];
     }
 
 -- all
-pub published_whole : (s : Server) (w : Workspace) (others unpublished edited : Names) (old next now : Outgoing) →
-    (IsKept s.workspace → IsSettled w) → (IsKept s.workspace → AreOthers (names_of others) (reported_of_name s.workspace) (reported_of_name w)) →
-    next ≡ with_all old (messages_in (publisher_of s) w (names_beside (names_of others) (due_of s))) →
-    now ≡ with_all next (messages_in (publisher_of s) w (names_of others)) → names_of unpublished ≡ [] → names_of edited ≡ [] →
+pub published_whole : (s : Server) (w : Workspace) (others unpublished edited : NameList) (old next now : Outgoing) →
+    (IsKept s.workspace → IsSettled w) → (IsKept s.workspace → AreRead w) → (IsKept s.workspace → AreOthers (names_of others) (reported_of_name s.workspace) (reported_of_name w)) →
+    next ≡ with_all old (messages_in (publisher_of s) w (names_once (names_of others) (due_of s))) →
+    now ≡ with_all next (messages_in (publisher_of s) w (names_once [] (names_of others))) → names_of unpublished ≡ [] → names_of edited ≡ [] →
     ArePublished s (with_found s w unpublished edited) old now
-published_whole s w others unpublished edited old next now settled are more sent no_unreported no_edited = record {
+published_whole s w others unpublished edited old next now settled read are more sent no_unreported no_edited = record {
   settled = settled;
+  read = read;
   others = names_of others;
   are = are;
-  sent = joined s w old next now (names_beside (names_of others) (due_of s)) (names_of others) more sent;
+  sent = joined s w old next now (names_once (names_of others) (due_of s)) (names_once [] (names_of others)) more sent;
   unpublished = no_unreported;
   edited = no_edited;
 }

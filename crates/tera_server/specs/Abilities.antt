@@ -18,6 +18,10 @@ triggers =
 abbrev pub completion_json : Json
 completion_json = object (member (codes "triggerCharacters") (array triggers) no_members)
 
+-- .. and what the component takes in whose call the cursor is
+abbrev pub signature_json : Json
+signature_json = object (member (codes "triggerCharacters") (array (item (string (codes " ")) (item (string (codes "=")) no_items))) no_members)
+
 -- what kinds of actions are offered
 abbrev pub actions_json : Json
 actions_json = object (member (codes "codeActionKinds") (array (item (string (codes "quickfix")) no_items)) no_members)
@@ -44,8 +48,9 @@ capabilities_json e =
     (member (codes "referencesProvider") (boolean true)
     (member (codes "codeActionProvider") actions_json
     (member (codes "completionProvider") completion_json
+    (member (codes "signatureHelpProvider") signature_json
     (member (codes "semanticTokensProvider") semantic_json
-    (member (codes "workspace") workspace_json no_members)))))))))))
+    (member (codes "workspace") workspace_json no_members))))))))))))
 
 -- the version of the program and of its server
 abbrev pub version : List ℕ

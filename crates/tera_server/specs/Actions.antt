@@ -1,16 +1,19 @@
 -- What may be done about what is found in a part of a document.
-use Rattle.std.specs.Prelude.{◌≡◌, ◌&&◌, ℕ, List, [], Bool, true, codes, map, nat_le, string_bytes, Option, None, Some}
-use Rattle.std.specs.List.{filter, filter_map}
-use Rattle.std.specs.Option.{option_map}
-use Rattle.json.specs.Json.{Json, boolean, string, array, object, no_members, member}
+use Rattle.std.specs.Prelude.{◌≡◌, ◌&&◌, ℕ, List, [], ◌∷◌, Bool, true, false, codes, map, nat_le, string_bytes, Option, None, Some}
+use Rattle.std.specs.List.{filter, filter_map, list_any}
+use Rattle.std.specs.Option.{option_map, option_map_or}
+use Rattle.json.specs.Find.{as_str}
+use Rattle.json.specs.Json.{Json, boolean, string, array, object, no_items, no_members, member}
 use Rattle.json.specs.Token.{Token}
 use Rattle.json.specs.Tree.{json_tokens}
 use Rattle.json.specs.Value.{items_of}
+use Rattle.protocol_values.specs.Members.{array_in, member_of}
 use Rattle.protocol_values.specs.Writing.{edit_json}
 use Rattle.tera_check.specs.declared.finding.Finding.{Finding}
 use Rattle.tera_fixes.specs.All.{AreSuggestedIn}
 use Rattle.tera_fixes.specs.Suggestions.{SuggestionVal}
 use Rattle.tera_fixes.specs.declared.parts.Part.{Part}
+use Rattle.tera_lexer.specs.grammar.Words.{is_one_of}
 use Rattle.tera_workspace.specs.Judgements.{IsJudgementOf}
 use Rattle.tera_workspace.specs.Sources.{Source}
 use Rattle.tera_workspace.specs.declared.judgements.Judgement.{Judgement}
@@ -90,6 +93,27 @@ abbrev pub AreActionsIfAny : ActingVal → Source → Position × Position → O
 AreActionsIfAny x s range None actions = actions ≡ []
 AreActionsIfAny x s range (Some j) actions = AreActionsBy x s range j actions
 
+-- ---- which kinds are asked for
+
+-- a kind that covers that of corrections: the same, or the empty one, which covers all
+abbrev pub covers_corrections : List ℕ → Bool
+covers_corrections kind = is_one_of (codes "" ∷ codes "quickfix" ∷ []) kind
+
+abbrev pub is_correction : Json → Bool
+is_correction kind = option_map_or covers_corrections (as_str kind) false
+
+-- corrections are among these kinds, or no kinds are named
+abbrev pub are_wanted : List Json → Bool
+are_wanted [] = true
+are_wanted (kind ∷ kinds) = list_any is_correction (kind ∷ kinds)
+
+-- .. by the parameters of a request
+abbrev pub wants_corrections : Option Json → Bool
+wants_corrections params =
+    option_map_or are_wanted (array_in (member_of (codes "only") (member_of (codes "context") params))) true
+
+-- ---- all
+
 -- the array of all
 pub record AreActions (x : ActingVal) (s : Source) (range : Position × Position) (offered : Json) : Type 0 where
   pub judgement : Option Judgement
@@ -97,3 +121,8 @@ pub record AreActions (x : ActingVal) (s : Source) (range : Position × Position
   pub actions : List Json
   pub are : AreActionsIfAny x s range judgement actions
   pub written : offered ≡ array (items_of actions)
+
+-- .. or none, if no corrections are asked for
+abbrev pub AreWanted : Bool → ActingVal → Source → Position × Position → Json → Type 0
+AreWanted true x s range offered = AreActions x s range offered
+AreWanted false x s range offered = offered ≡ array no_items

@@ -5,8 +5,8 @@ use Rattle.protocol_values.specs.Members.{member_of, is_set}
 use Rattle.protocol_values.specs.Reading.{encoding_in}
 use Rattle.tera_server.specs.declared.client.Client.{Client}
 
--- where its capabilities say which encodings it knows, whether it shows what explains a finding, and whether it can be
--- asked to watch files
+-- where its capabilities say which encodings it knows, whether it shows what explains a finding, whether it can be asked
+-- to watch files, and whether it takes the place of a parameter in a head
 abbrev pub offered_in : Option Json → Option Json
 offered_in j = member_of (codes "positionEncodings") (member_of (codes "general") j)
 
@@ -16,8 +16,20 @@ related_in j = member_of (codes "relatedInformation") (member_of (codes "publish
 abbrev pub watches_in : Option Json → Option Json
 watches_in j = member_of (codes "dynamicRegistration") (member_of (codes "didChangeWatchedFiles") (member_of (codes "workspace") j))
 
+abbrev pub labels_in : Option Json → Option Json
+labels_in j =
+    member_of (codes "labelOffsetSupport")
+    (member_of (codes "parameterInformation")
+    (member_of (codes "signatureInformation")
+    (member_of (codes "signatureHelp") (member_of (codes "textDocument") j))))
+
 -- the client by the parameters of `initialize`
 abbrev pub client_in : Option Json → Client
 client_in params =
     let j = member_of (codes "capabilities") params in
-    record { encoding = encoding_in (offered_in j); related = is_set (related_in j); watches = is_set (watches_in j) }
+    record {
+      encoding = encoding_in (offered_in j);
+      related = is_set (related_in j);
+      watches = is_set (watches_in j);
+      labels = is_set (labels_in j);
+    }

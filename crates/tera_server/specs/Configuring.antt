@@ -1,12 +1,12 @@
 -- What settings of a folder change.
-use Rattle.std.specs.Prelude.{◌≡◌, ◌⊎◌, ◌++◌, ◌&&◌, ◌==◌, ℕ, List, Bool, cond, filter, length, map, not, string_bytes, Option, None, Some, IfSome}
+use Rattle.std.specs.Prelude.{◌≡◌, ◌⊎◌, ◌++◌, ◌&&◌, ◌||◌, ◌==◌, ℕ, List, Bool, false, cond, filter, length, map, not, option_map, string_bytes, Option, None, Some, IfSome}
 use Rattle.std.specs.List.{flat_map}
 use Rattle.std.specs.Str.{bytes_eq}
 use Rattle.tera_workspace.specs.Definitions.{texts_read}
 use Rattle.tera_workspace.specs.Workspaces.{reported_of_name}
 use Rattle.tera_workspace.specs.declared.workspace.Workspace.{Workspace}
 use Rattle.tera_server.specs.Sending.{unpublished_of}
-use Rattle.tera_server.specs.Settings.{SettingsVal, file_in, rules_of, settings_in, settings_view}
+use Rattle.tera_server.specs.Settings.{SettingsVal, file_in, has_list, has_list_if_any, reported_in, settings_in, settings_view}
 use Rattle.tera_server.specs.States.{Grows, edited_of, needed_of, needs}
 use Rattle.tera_server.specs.Templates.{is_inside}
 use Rattle.tera_server.specs.UnreadFiles.{ReasonVal, reason_view, why_of}
@@ -15,25 +15,32 @@ use Rattle.tera_server.specs.declared.configuring.FoundSettings.TheVariants as f
 use Rattle.tera_server.specs.declared.notes.NeededKind.TheVariants.{Folder}
 use Rattle.tera_server.specs.declared.server.Server.{Server}
 
--- a document is in a folder, and something was reported of it
-abbrev pub is_reported_inside : Workspace → List ℕ → List ℕ → Bool
-is_reported_inside w folder n = is_inside folder n && not (length (reported_of_name w n) == 0)
+-- a document is in a folder, and something was reported of it; or each in the folder
+abbrev pub is_due_inside : Workspace → List ℕ → Bool → List ℕ → Bool
+is_due_inside w folder all n = is_inside folder n && (all || not (length (reported_of_name w n) == 0))
 
--- the file in which settings are, and what is wrong in it
+-- the file in which settings are, and what is wrong in it, or has no effect
 abbrev pub file_found : FoundSettings → Option (List ℕ)
 file_found found_as.Nothing = None
-file_found (found_as.Set file settings) = Some (string_bytes file)
+file_found (found_as.Set file settings why) = Some (string_bytes file)
 file_found (found_as.Wrong file why) = Some (string_bytes file)
 
 abbrev pub why_found : FoundSettings → Option ReasonVal
+why_found found_as.Nothing = None
+why_found (found_as.Set file settings why) = option_map reason_view why
 why_found (found_as.Wrong file why) = Some (reason_view why)
-why_found _ = None
 
 -- the settings then, by those before: if they are wrong, those stay
 abbrev pub settings_by : FoundSettings → Option SettingsVal → Option SettingsVal
 settings_by found_as.Nothing old = None
-settings_by (found_as.Set file settings) old = Some (settings_view settings)
+settings_by (found_as.Set file settings why) old = Some (settings_view settings)
 settings_by (found_as.Wrong file why) old = old
+
+-- some of what the program registers is listed by what was found, or was before; if that is wrong, nothing else is
+abbrev pub is_listed_by : FoundSettings → Option SettingsVal → Bool
+is_listed_by found_as.Nothing old = has_list_if_any old
+is_listed_by (found_as.Set file settings why) old = has_list (settings_view settings) || has_list_if_any old
+is_listed_by (found_as.Wrong file why) old = false
 
 -- nothing changes but settings, what is known of files, and what is to be published, which stays so
 pub record IsUnconfigured (s t : Server) : Type 0 where
@@ -41,12 +48,14 @@ pub record IsUnconfigured (s t : Server) : Type 0 where
   pub edited : Grows (edited_of s) (edited_of t)
   pub unpublished : Grows (unpublished_of s) (unpublished_of t)
 
--- what was reported in a folder is to be published, unless rules are set as before
+-- What was reported in a folder is to be published, unless the same is reported there as before. Where something is
+-- listed, each document is, as other names may be unknown.
 abbrev pub ArePublishedAgain : List ℕ → FoundSettings → Server → Server → Type 0
 ArePublishedAgain folder found s t =
     let old = settings_in s.settings folder in
-    ((rules_of (settings_by found old) ≡ rules_of old) × (unpublished_of t ≡ unpublished_of s))
-    ⊎ (unpublished_of t ≡ unpublished_of s ++ filter (is_reported_inside s.workspace folder) (map (λ d. d.name) (texts_read s.workspace)))
+    let all = is_listed_by found old in
+    ((all ≡ false) × (reported_in (settings_by found old) ≡ reported_in old) × (unpublished_of t ≡ unpublished_of s))
+    ⊎ (unpublished_of t ≡ unpublished_of s ++ filter (is_due_inside s.workspace folder all) (map (λ d. d.name) (texts_read s.workspace)))
 
 -- They are the settings of the folder, and those of other folders are what they were; and what is wrong in their file is
 -- known.

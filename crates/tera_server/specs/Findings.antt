@@ -8,13 +8,11 @@ use Rattle.json.specs.Value.{items_of}
 use Rattle.json_rpc.specs.Writing.{notification}
 use Rattle.protocol_values.specs.Writing.{number_json, range_json, location_json, member_tokens}
 use Rattle.tera_check.specs.Findings.{kind_name}
-use Rattle.tera_check.specs.declared.finding.Severity.{Severity}
-use Rattle.tera_check.specs.declared.finding.Severity.TheVariants.{Error, Warning}
 use Rattle.tera_workspace.specs.Diagnostics.{DiagnosticVal, RelatedVal}
 use Rattle.text_edits.specs.declared.positions.Position.{Position}
 use Rattle.tera_server.specs.Editors.{seen_of, uri_in, version_in}
 use Rattle.tera_server.specs.Settings.{Shown, shown_as}
-use Rattle.tera_server.specs.UnreadFiles.{ReasonVal}
+use Rattle.tera_server.specs.UnreadFiles.{ReasonVal, severity_number}
 use Rattle.tera_server.specs.declared.editor.Editor.{Editor}
 
 -- what explains a finding
@@ -34,11 +32,6 @@ related_members e reported rs =
 -- that, as it is written
 abbrev pub related_tokens : Editor → Bool → List RelatedVal → List Token
 related_tokens e reported rs = if reported then member_tokens (codes "relatedInformation") (array (items_of (map (related_json e) rs))) else []
-
--- how grave a finding is, as the protocol has it
-abbrev pub severity_number : Severity → ℕ
-severity_number Error = 1
-severity_number Warning = 2
 
 -- a finding
 abbrev pub diagnostic_json : Editor → Bool → DiagnosticVal → Json
@@ -72,7 +65,7 @@ reason_code r = if is_some r.line then codes "settings" else codes "unread"
 abbrev pub reason_json : ReasonVal → Json
 reason_json r =
     object (member (codes "range") (range_json (reason_place r) (reason_place r))
-    (member (codes "severity") (number_json (severity_number Error))
+    (member (codes "severity") (number_json r.severity)
     (member (codes "code") (string (reason_code r))
     (member (codes "source") (string (codes "tera"))
     (member (codes "message") (string r.message) no_members)))))

@@ -18,6 +18,7 @@ pub mod SemanticTokens
 pub mod Sending
 pub mod Settings
 pub mod Settling
+pub mod Signatures
 pub mod States
 pub mod Steps
 pub mod Templates

@@ -1,5 +1,6 @@
 -- What requests are answered.
-use Rattle.std.specs.Prelude.{◌≡◌, ◌⊎◌, ◌++◌, if◌then◌else◌, ℕ, List, [], ◌∷◌, Bool, codes, map, string_bytes, MatchResult, Option, None, Some, Result, Vec}
+use Rattle.std.specs.Prelude.{◌≡◌, ◌⊎◌, ◌++◌, if◌then◌else◌, ℕ, List, [], ◌∷◌, Bool, true, false, codes, map, string_bytes, MatchResult, Option, None, Some, Result, Vec}
+use Rattle.std.specs.Option.{option_map_or}
 use Rattle.std.specs.Str.{bytes_eq}
 use Rattle.std.specs.declared.alloc.Global.{Global}
 use Rattle.file_uris.specs.Names.{IsNameOf}
@@ -20,7 +21,7 @@ use Rattle.text_edits.specs.Stored.{document_of, AreSame}
 use Rattle.text_edits.specs.declared.positions.Encoding.{Encoding}
 use Rattle.text_edits.specs.declared.positions.Position.{Position}
 use Rattle.tera_server.specs.Abilities.{abilities_json}
-use Rattle.tera_server.specs.Actions.{ActingVal, AreActions}
+use Rattle.tera_server.specs.Actions.{ActingVal, AreWanted, wants_corrections}
 use Rattle.tera_server.specs.Clients.{client_in}
 use Rattle.tera_server.specs.Completions.{IsCompletion}
 use Rattle.tera_server.specs.Definitions.{IsNamedAt, place_of, place_json}
@@ -31,7 +32,8 @@ use Rattle.tera_server.specs.Notes.{document_in, uri_given, item_uri, AreNames}
 use Rattle.tera_server.specs.Outlines.{IsOutline}
 use Rattle.tera_server.specs.References.{declares, IsList}
 use Rattle.tera_server.specs.SemanticTokens.{AreTokens}
-use Rattle.tera_server.specs.Settings.{registered_for}
+use Rattle.tera_server.specs.Settings.{registered_for, settings_for}
+use Rattle.tera_server.specs.Signatures.{IsSignature}
 use Rattle.tera_server.specs.declared.editor.DocumentState.{DocumentState}
 use Rattle.tera_server.specs.declared.editor.DocumentState.TheVariants.{Open, Lost, Closed}
 use Rattle.tera_server.specs.declared.requests.Asked.{Asked}
@@ -57,8 +59,9 @@ asked_of m =
     else (if bytes_eq m (codes "textDocument/hover") then asks.AtPlace (at_place.OfName of_name.Hover)
     else (if bytes_eq m (codes "textDocument/references") then asks.AtPlace (at_place.OfName of_name.References)
     else (if bytes_eq m (codes "textDocument/completion") then asks.AtPlace at_place.Completion
+    else (if bytes_eq m (codes "textDocument/signatureHelp") then asks.AtPlace at_place.Signature
     else (if bytes_eq m (codes "textDocument/semanticTokens/full") then asks.OfText of_text.SemanticTokens
-    else (if bytes_eq m (codes "textDocument/codeAction") then asks.Actions else asks.Other)))))))))
+    else (if bytes_eq m (codes "textDocument/codeAction") then asks.Actions else asks.Other))))))))))
 
 abbrev pub folders_by : Option Json → List Json → List (Option (List ℕ))
 folders_by params [] = text_in (member_of (codes "rootUri") params) ∷ []
@@ -131,6 +134,19 @@ IsResultOfText of_text.Formatting encoding text j = IsLayout encoding text j
 IsResultOfText of_text.Symbols encoding text j = IsOutline encoding text j
 IsResultOfText of_text.SemanticTokens encoding text j = AreTokens encoding text j
 
+-- .. of the document of a URI; null, where the settings say that it is not read between its markers
+abbrev pub has_other_markers : Server → List ℕ → Bool
+has_other_markers s name = option_map_or (λ settings. settings.other_markers) (settings_for s.settings (map string_bytes s.folders.items) name) false
+
+abbrev pub IsReadAs : Bool → (Json → Type 0) → Json → Type 0
+IsReadAs true Holds j = j ≡ null
+IsReadAs false Holds j = Holds j
+
+abbrev pub IsResultOfDocument : TextRequest → Option (List ℕ) → Server → Json → Type 0
+IsResultOfDocument request uri s j =
+    (name : List ℕ) × (text : List ℕ) × IsMeantAs uri s name text
+    × IsReadAs (has_other_markers s name) (IsResultOfText request s.client.encoding text) j
+
 -- .. and of a name: the place that it leads to, the head of its definition, or the places that refer to what it stands for
 abbrev pub IsResultOfName : NameRequest → Option Json → Option Named → Server → Json → Type 0
 IsResultOfName of_name.Definition params named t j =
@@ -145,7 +161,13 @@ IsOffered (Some position) uri s j =
     (name : List ℕ) × (text : List ℕ) × IsMeantAs uri s name text
     × IsCompletion s.client.encoding s.workspace (map string_bytes s.folders.items) (registered_for s.settings (map string_bytes s.folders.items) name) text position j
 
--- these actions are offered for the range of the document
+-- this is what the component takes in whose call the position is
+abbrev pub IsSignedAt : Option Position → Option (List ℕ) → Server → Json → Type 0
+IsSignedAt None uri s j = ⊥
+IsSignedAt (Some position) uri s j =
+    (text : List ℕ) × IsMeant uri s text × IsSignature s.client s.workspace text position j
+
+-- these actions are offered for the range of the document, if corrections are wanted
 abbrev pub acting_of : Server → ActingVal
 acting_of s = record {
   workspace = s.workspace;
@@ -155,25 +177,26 @@ acting_of s = record {
   encoding = s.client.encoding;
 }
 
-abbrev pub AreOfRange : Option (Position × Position) → Option (List ℕ) → Server → Json → Type 0
-AreOfRange None uri s j = ⊥
-AreOfRange (Some range) uri s j =
-    (name : List ℕ) × (text : List ℕ) × IsMeantAs uri s name text × AreActions (acting_of s) (record { name = name; text = text }) range j
+abbrev pub AreOfRange : Bool → Option (Position × Position) → Option (List ℕ) → Server → Json → Type 0
+AreOfRange wanted None uri s j = ⊥
+AreOfRange wanted (Some range) uri s j =
+    (name : List ℕ) × (text : List ℕ) × IsMeantAs uri s name text
+    × AreWanted wanted (acting_of s) (record { name = name; text = text }) range j
 
 -- the result of a request of a position: of what is named there, or what may be typed there
 abbrev pub IsResultAt : PlaceRequest → Option Json → Server → Json → Type 0
 IsResultAt (at_place.OfName request) params t j =
     (named : Option Named) × IsNamed (place_in params) (uri_given (document_in params)) t named × IsResultOfName request params named t j
+IsResultAt at_place.Signature params t j = IsSignedAt (place_in params) (uri_given (document_in params)) t j
 IsResultAt at_place.Completion params t j = IsOffered (place_in params) (uri_given (document_in params)) t j
 
 -- the result of a request
 abbrev pub Gives : Phase → Asked → Server → Option Json → Json → Server → Type 0
 Gives New asks.Initialize s params j t = (j ≡ abilities_json (client_in params).encoding) × IsBegun params s t
 Gives Running asks.Shutdown s params j t = (j ≡ null) × (t ≡ record s { phase = ShutDown })
-Gives Running (asks.OfText request) s params j t =
-    (text : List ℕ) × IsMeant (uri_given (document_in params)) s text × IsResultOfText request s.client.encoding text j × (t ≡ s)
+Gives Running (asks.OfText request) s params j t = IsResultOfDocument request (uri_given (document_in params)) s j × (t ≡ s)
 Gives Running (asks.AtPlace request) s params j t = IsOfCurrentTexts (IsResultAt request params) s j t
-Gives Running asks.Actions s params j t = IsOfCurrentTexts (AreOfRange (range_given params) (uri_given (document_in params))) s j t
+Gives Running asks.Actions s params j t = IsOfCurrentTexts (AreOfRange (wants_corrections params) (range_given params) (uri_given (document_in params))) s j t
 Gives _ _ s params j t = ⊥
 
 -- why a document is refused: the editor has it not open, or with a text that is not known

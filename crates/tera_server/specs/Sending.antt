@@ -1,15 +1,17 @@
 -- What is sent of documents.
-use Rattle.std.specs.Prelude.{◌≡◌, ◌++◌, ℕ, List, [], ◌∷◌, Bool, not, map, string_bytes}
-use Rattle.std.specs.List.{filter, flat_map}
+use Rattle.std.specs.Prelude.{◌≡◌, ◌++◌, ℕ, List, [], ◌∷◌, Bool, if◌then◌else◌, map, string_bytes}
+use Rattle.std.specs.List.{flat_map}
+use Rattle.std.specs.Option.{option_map_or}
 use Rattle.json_rpc.specs.Outgoing.{Outgoing}
 use Rattle.json_rpc.specs.Writing.{body}
 use Rattle.tera_workspace.specs.Diagnostics.{DiagnosticVal}
 use Rattle.tera_workspace.specs.Names.{is_among}
+use Rattle.tera_workspace.specs.Unregistered.{unknown_of_name}
 use Rattle.tera_workspace.specs.Workspaces.{reported_of_name}
 use Rattle.tera_workspace.specs.declared.workspace.Workspace.{Workspace}
 use Rattle.tera_server.specs.Editors.{state_of}
 use Rattle.tera_server.specs.Findings.{published}
-use Rattle.tera_server.specs.Settings.{reported_for, shown_in}
+use Rattle.tera_server.specs.Settings.{listing_for, registered_in, reported_for, shown_in}
 use Rattle.tera_server.specs.declared.editor.Editor.{Editor}
 use Rattle.tera_server.specs.declared.editor.DocumentState.{DocumentState}
 use Rattle.tera_server.specs.declared.editor.DocumentState.TheVariants.{Open, Lost, Closed}
@@ -50,9 +52,14 @@ publisher_of s = record {
   folders = map string_bytes s.folders.items;
 }
 
--- of what was reported for the document of a name last, what is on by the settings, as grave as its rules count for
+-- the filters, tests and functions in the document of a name that the program does not have, if the settings list some
+abbrev pub unknown_for : Publisher → Workspace → List ℕ → List DiagnosticVal
+unknown_for p w n = option_map_or (λ settings. unknown_of_name w (registered_in settings) n) (listing_for p.settings p.folders n) []
+
+-- of what was reported for the document of a name last, and of these, what is on by the settings, as grave as its rules
+-- count for
 abbrev pub shown_of : Publisher → Workspace → List ℕ → List DiagnosticVal
-shown_of p w n = shown_in (reported_for p.settings p.folders n) (reported_of_name w n)
+shown_of p w n = shown_in (reported_for p.settings p.folders n) (reported_of_name w n ++ unknown_for p w n)
 
 -- what is published of the document of a name: why its file cannot be read, or is wrong, and that
 unfoldable pub found_message : Publisher → Workspace → List ℕ → List ℕ
@@ -80,6 +87,7 @@ SendsFirst messages ns old now =
 abbrev pub unpublished_of : Server → List (List ℕ)
 unpublished_of s = map string_bytes s.unpublished.items
 
--- names that are not among others
-abbrev pub names_beside : List (List ℕ) → List (List ℕ) → List (List ℕ)
-names_beside others ns = filter (λ n. not (is_among n others)) ns
+-- names that are not among others, each once
+abbrev pub names_once : List (List ℕ) → List (List ℕ) → List (List ℕ)
+names_once others [] = []
+names_once others (n ∷ ns) = if is_among n others then names_once others ns else n ∷ names_once (n ∷ others) ns

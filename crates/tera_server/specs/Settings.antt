@@ -1,5 +1,5 @@
 -- What settings say of the templates below folders.
-use Rattle.std.specs.Prelude.{◌≡◌, ◌||◌, ℕ, List, [], Bool, false, not, cond, if◌then◌else◌, map, String, string_bytes, is_some, Option, None, Some, Vec}
+use Rattle.std.specs.Prelude.{◌≡◌, ◌||◌, ℕ, List, [], Bool, false, not, cond, if◌then◌else◌, map, String, string_bytes, is_some, unwrap_or, Option, None, Some, Vec}
 use Rattle.std.specs.BTreeMap.{get_by_text}
 use Rattle.std.specs.List.{filter_map, find, list_any}
 use Rattle.std.specs.Option.{option_and_then, option_map, option_map_or}
@@ -7,6 +7,7 @@ use Rattle.std.specs.Str.{bytes_eq}
 use Rattle.std.specs.declared.alloc.Global.{Global}
 use Rattle.tera_check.specs.Findings.{default_level, kind_name, severity_of}
 use Rattle.tera_check.specs.Levels.{is_fault}
+use Rattle.tera_check.specs.Registered.{is_listed, RegisteredVal as ByLists}
 use Rattle.tera_check.specs.declared.finding.Kind.{Kind}
 use Rattle.tera_check.specs.declared.finding.Severity.{Severity}
 use Rattle.tera_check.specs.declared.levels.RuleLevel.{RuleLevel}
@@ -30,30 +31,35 @@ rule_view r = (string_bytes r.rule, r.level)
 abbrev pub level_view : RuleLevel → RuleVal
 level_view r = (r.rule.now, r.level)
 
--- the ends of the names of templates, if they are not as usual; what is left out; libraries; what rules are set to; and
--- the names of filters, tests and functions that the program registers, as far as they are known
+-- the ends of the names of templates, if they are not as usual; what is left out; libraries; whether templates are
+-- between other markers; what rules are set to; and the names of filters, tests and functions that the program registers,
+-- as far as they are known
 pub record SettingsVal : Type 0 where
   pub extensions : Option (List (List ℕ))
   pub exclude : List (List ℕ)
   pub libraries : List (List ℕ)
+  pub other_markers : Bool
   pub rules : List RuleVal
-  pub filters : List (List ℕ)
-  pub tests : List (List ℕ)
-  pub functions : List (List ℕ)
+  pub filters : Option (List (List ℕ))
+  pub tests : Option (List (List ℕ))
+  pub functions : Option (List (List ℕ))
+
+abbrev pub list_in : Option (Vec (String Global) Global) → Option (List (List ℕ))
+list_in = option_map (λ v. map string_bytes v.items)
 
 abbrev pub names_in : Option (Vec (String Global) Global) → List (List ℕ)
-names_in None = []
-names_in (Some v) = map string_bytes v.items
+names_in list = unwrap_or (list_in list) []
 
 abbrev pub settings_view : FolderSettings → SettingsVal
 settings_view s = record {
   extensions = option_map (λ v. map string_bytes v.items) s.extensions;
   exclude = map string_bytes s.exclude.items;
   libraries = map string_bytes s.libraries.items;
+  other_markers = s.other_markers;
   rules = map rule_view s.rules.items;
-  filters = names_in s.filters;
-  tests = names_in s.tests;
-  functions = names_in s.functions;
+  filters = list_in s.filters;
+  tests = list_in s.tests;
+  functions = list_in s.functions;
 }
 
 -- of a folder, and the file that they are from
@@ -92,15 +98,29 @@ registered_view r = record { filters = map string_bytes r.filters.now; tests = m
 
 abbrev pub registered_by : Option SettingsVal → RegisteredVal
 registered_by None = record { filters = []; tests = []; functions = [] }
-registered_by (Some settings) = record { filters = settings.filters; tests = settings.tests; functions = settings.functions }
+registered_by (Some settings) = record { filters = unwrap_or settings.filters []; tests = unwrap_or settings.tests []; functions = unwrap_or settings.functions [] }
 
 abbrev pub registered_for : Settings → List (List ℕ) → List ℕ → RegisteredVal
 registered_for s folders file = registered_by (settings_for s folders file)
 
--- what rules are set to by settings, if there are any
-abbrev pub rules_of : Option SettingsVal → List RuleVal
-rules_of None = []
-rules_of (Some settings) = settings.rules
+-- some of what the program registers is listed
+abbrev pub has_list : SettingsVal → Bool
+has_list settings = is_some settings.filters || is_some settings.tests || is_some settings.functions
+
+abbrev pub has_list_if_any : Option SettingsVal → Bool
+has_list_if_any None = false
+has_list_if_any (Some settings) = has_list settings
+
+abbrev pub if_listing : SettingsVal → Option SettingsVal
+if_listing settings = if has_list settings then Some settings else None
+
+-- the settings that count for a file, if they list some
+abbrev pub listing_for : Settings → List (List ℕ) → List ℕ → Option SettingsVal
+listing_for s folders file = option_and_then if_listing (settings_for s folders file)
+
+-- what the program registers by lists: what is listed; where a list is absent, anything
+abbrev pub registered_in : SettingsVal → ByLists
+registered_in settings = record { filters = is_listed settings.filters; tests = is_listed settings.tests; functions = is_listed settings.functions }
 
 -- a file is one of a library of some folder
 abbrev pub has_library : List ℕ → String Global × FolderSettings → Bool
@@ -109,18 +129,29 @@ has_library file (folder, s) = is_some (folder_of (map string_bytes s.libraries.
 abbrev pub is_in_library : Settings → List ℕ → Bool
 is_in_library s file = list_any (has_library file) s.of_folders.entries
 
--- what is reported of a file beside its faults: what counts for anything where rules are set so, or nothing
-abbrev pub Shown : Type 0
-Shown = Option (List RuleVal)
+-- what is reported of a file: what counts for anything where rules are set so, no more than faults, or nothing
+pub data Shown : Type 0 where
+  ByRules : List RuleVal → Shown
+  FaultsAlone : Shown
+  NoFindings : Shown
 
 abbrev pub reported_view : Reported → Shown
-reported_view (reported_as.By rules) = Some (map rule_view rules.now)
-reported_view reported_as.Nothing = None
+reported_view (reported_as.By rules) = ByRules (map rule_view rules.now)
+reported_view reported_as.Faults = FaultsAlone
+reported_view reported_as.Nothing = NoFindings
 
--- in a folder by its settings; and of another one in a library no more than faults
+-- in a folder by its settings: between other markers nothing is
+abbrev pub reported_with : SettingsVal → Shown
+reported_with settings = if settings.other_markers then NoFindings else ByRules settings.rules
+
+abbrev pub reported_in : Option SettingsVal → Shown
+reported_in None = ByRules []
+reported_in (Some settings) = reported_with settings
+
+-- .. and of another one in a library no more than faults
 abbrev pub reported_by : Settings → List ℕ → Option (List ℕ) → Shown
-reported_by s file (Some folder) = Some (rules_of (settings_in s folder))
-reported_by s file None = if is_in_library s file then None else Some []
+reported_by s file (Some folder) = reported_in (settings_in s folder)
+reported_by s file None = if is_in_library s file then FaultsAlone else ByRules []
 
 abbrev pub reported_for : Settings → List (List ℕ) → List ℕ → Shown
 reported_for s folders file = reported_by s file (folder_of folders file)
@@ -130,12 +161,18 @@ abbrev pub level_in : List RuleVal → Kind → Option Severity
 level_in rules kind = option_map_or (λ r. r.1) (find (λ r. bytes_eq r.0 (kind_name kind)) rules) (default_level kind)
 
 abbrev pub set_level : Shown → Kind → Option Severity
-set_level None kind = None
-set_level (Some rules) kind = level_in rules kind
+set_level (ByRules rules) kind = level_in rules kind
+set_level FaultsAlone kind = None
+set_level NoFindings kind = None
 
--- faults are errors, whatever is set, and always reported
+-- faults are errors, whatever is set, and reported if anything is
+abbrev pub fault_level : Shown → Kind → Option Severity
+fault_level (ByRules rules) kind = Some (severity_of kind)
+fault_level FaultsAlone kind = Some (severity_of kind)
+fault_level NoFindings kind = None
+
 abbrev pub level_by : Shown → Kind → Option Severity
-level_by shown kind = if is_fault kind then Some (severity_of kind) else set_level shown kind
+level_by shown kind = if is_fault kind then fault_level shown kind else set_level shown kind
 
 abbrev pub is_on : Shown → Kind → Bool
 is_on shown kind = is_some (level_by shown kind)

@@ -1,10 +1,11 @@
 -- What is published when no message waits.
 use Rattle.std.specs.Prelude.{◌≡◌, ◌≢◌, ◌⊎◌, ◌++◌, ℕ, List, [], true}
 use Rattle.json_rpc.specs.Outgoing.{Outgoing}
+use Rattle.tera_workspace.specs.Definitions.{AreRead}
 use Rattle.tera_workspace.specs.Names.{is_among}
 use Rattle.tera_workspace.specs.Workspaces.{reported_of_name, IsKept, IsSettled, AreOthers}
 use Rattle.text_edits.specs.Stored.{AreSame}
-use Rattle.tera_server.specs.Sending.{with_all, messages_of, unpublished_of, names_beside}
+use Rattle.tera_server.specs.Sending.{with_all, messages_of, unpublished_of, names_once}
 use Rattle.tera_server.specs.States.{edited_of}
 use Rattle.tera_server.specs.declared.server.Phase.{Phase}
 use Rattle.tera_server.specs.declared.server.Phase.TheVariants.{New, Running, ShutDown}
@@ -16,12 +17,13 @@ abbrev pub due_of : Server → List (List ℕ)
 due_of s = edited_of s ++ unpublished_of s
 
 -- what is reported now is published: of the documents of which something was to be, and of those of which something
--- else is reported than before
+-- else is reported than before, once of each
 pub record ArePublished (s t : Server) (old now : Outgoing) : Type 0 where
   pub settled : IsKept s.workspace → IsSettled t.workspace
+  pub read : IsKept s.workspace → AreRead t.workspace
   pub others : List (List ℕ)
   pub are : IsKept s.workspace → AreOthers others (reported_of_name s.workspace) (reported_of_name t.workspace)
-  pub sent : now ≡ with_all old (messages_of t (names_beside others (due_of s) ++ others))
+  pub sent : now ≡ with_all old (messages_of t (names_once others (due_of s) ++ names_once [] others))
   pub unpublished : unpublished_of t ≡ []
   pub edited : edited_of t ≡ []
 

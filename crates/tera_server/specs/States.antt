@@ -15,6 +15,7 @@ use Rattle.tera_server.specs.declared.editor.DocumentState.TheVariants.{Open, Lo
 use Rattle.tera_server.specs.declared.notes.NeededKind.{NeededKind}
 use Rattle.tera_server.specs.declared.notes.NeededKind.TheVariants as kinds
 use Rattle.tera_server.specs.KnownFiles.{is_known}
+use Rattle.tera_server.specs.Settings.{has_list_if_any, settings_for}
 use Rattle.tera_server.specs.UnreadFiles.{ReasonVal, is_same, unread, why_of, IsWhyAt}
 use Rattle.tera_server.specs.declared.server.OnDisk.{OnDisk}
 use Rattle.tera_server.specs.declared.server.OnDisk.TheVariants as on_disk
@@ -130,18 +131,29 @@ is_there on_disk.Nothing = false
 abbrev pub edited_by : List ℕ → Option ReasonVal → Server → List (List ℕ)
 edited_by path why s = if option_eq is_same (why_of s.unread path) why then edited_of s else with_name path (edited_of s)
 
+-- .. Where the settings that count for it list what the program registers, it is among them anyhow, as something else may
+-- be unknown in it. Its name may be there twice then.
+abbrev pub lists_for : Server → List ℕ → Bool
+lists_for s path = has_list_if_any (settings_for s.settings (map string_bytes s.folders.items) path)
+
+abbrev pub edited_with : List ℕ → Option ReasonVal → Server → List (List ℕ)
+edited_with path why s = if lists_for s path then edited_of s ++ path ∷ [] else edited_by path why s
+
+abbrev pub edited_more : List ℕ → Server → List (List ℕ)
+edited_more path s = if lists_for s path then edited_of s ++ path ∷ [] else with_name path (edited_of s)
+
 -- this text is on disk under a path, or none is; and this is why the file there cannot be read, or nothing is
 pub record IsLoadedAs (path : List ℕ) (text : Option (List ℕ)) (why : Option ReasonVal) (s t : Server) : Type 0 where
   pub documents : IsChangedAt path (loaded_as text) s.workspace.documents t.workspace.documents
   pub unread : IsWhyAt path why s.unread t.unread
-  pub edited : edited_of t ≡ edited_by path why s
+  pub edited : edited_of t ≡ edited_with path why s
 
 -- an allocation failed for that: the texts are what they were, and so is what is known of the other files
 pub record IsNotLoaded (path : List ℕ) (s t : Server) : Type 0 where
   pub documents : AreSame s.workspace.documents t.workspace.documents
   pub unread : (n : List ℕ) → bytes_eq path n ≡ false → why_of t.unread n ≡ why_of s.unread n
   pub known : (n : List ℕ) → bytes_eq path n ≡ false → is_known t.known n ≡ is_known s.known n
-  pub edited : (edited_of t ≡ edited_of s) ⊎ (edited_of t ≡ with_name path (edited_of s))
+  pub edited : (edited_of t ≡ edited_of s) ⊎ (edited_of t ≡ edited_more path s)
 
 -- ---- what may have been a change
 

@@ -3,22 +3,30 @@ use Rattle.std.specs.Prelude.{◌≡◌, ◌&&◌, ℕ, nat_eq, Bool, List, stri
 use Rattle.std.specs.BTreeMap.{get_by_text}
 use Rattle.std.specs.Option.{option_eq, option_map}
 use Rattle.std.specs.Str.{bytes_eq}
+use Rattle.tera_check.specs.declared.finding.Severity.{Severity}
+use Rattle.tera_check.specs.declared.finding.Severity.TheVariants.{Error, Warning}
 use Rattle.tera_server.specs.declared.unread.Reason.{Reason}
 use Rattle.tera_server.specs.declared.unread.UnreadFiles.{UnreadFiles}
 
--- the line that is wrong, where the file was read; and what is said of it
+-- how grave something is, as the protocol has it
+abbrev pub severity_number : Severity → ℕ
+severity_number Error = 1
+severity_number Warning = 2
+
+-- the line that is wrong, where the file was read; how grave that is; and what is said of it
 pub record ReasonVal : Type 0 where
   pub line : Option ℕ
+  pub severity : ℕ
   pub message : List ℕ
 
 abbrev pub reason_view : Reason → ReasonVal
-reason_view r = record { line = r.line; message = string_bytes r.message }
+reason_view r = record { line = r.line; severity = severity_number r.severity; message = string_bytes r.message }
 
 abbrev pub unread : List ℕ → ReasonVal
-unread why = record { line = None; message = why }
+unread why = record { line = None; severity = severity_number Error; message = why }
 
 abbrev pub is_same : ReasonVal → ReasonVal → Bool
-is_same a b = option_eq nat_eq a.line b.line && bytes_eq a.message b.message
+is_same a b = option_eq nat_eq a.line b.line && (nat_eq a.severity b.severity && bytes_eq a.message b.message)
 
 -- why the file of a name cannot be read, or what is wrong in it
 abbrev pub why_of : UnreadFiles → List ℕ → Option ReasonVal

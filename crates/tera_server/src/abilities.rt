@@ -35,7 +35,7 @@ pub(crate) fn put_abilities(out: &mut Writer, encoding: Encoding) -> Result<(), 
     put_tokens(out, &AFTER_THE_CHANGES)
 }
 
-const AFTER_THE_CHANGES: [Token<'static>; 76] = [
+const AFTER_THE_CHANGES: [Token<'static>; 84] = [
     Token::EndObject,
     Token::Key("documentFormattingProvider"),
     Token::Bool(true),
@@ -66,6 +66,14 @@ const AFTER_THE_CHANGES: [Token<'static>; 76] = [
     Token::String("\""),
     Token::String("'"),
     Token::String("|"),
+    Token::EndArray,
+    Token::EndObject,
+    Token::Key("signatureHelpProvider"),
+    Token::BeginObject,
+    Token::Key("triggerCharacters"),
+    Token::BeginArray,
+    Token::String(" "),
+    Token::String("="),
     Token::EndArray,
     Token::EndObject,
     // What the numbers of kinds mean; tokens are reported for a whole text.

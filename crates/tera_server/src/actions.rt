@@ -1,24 +1,26 @@
 //! What may be done about what is found in a part of a document.
 
 ghost use Rattle.std.specs.Prelude.{◌≡◌, ◌++◌, List, map, string_bytes, IfOk, OnOk};
-ghost use Rattle.std.specs.List.{filter, flat_map};
+ghost use Rattle.std.specs.List.{filter, flat_map, list_any};
 ghost use Rattle.std.specs.Option.{option_map};
 ghost use Rattle.json.specs.Json.{Json};
 ghost use Rattle.json.specs.Tree.{json_tokens};
+ghost use Rattle.json.specs.Value.{value_view};
 ghost use Rattle.json_members.specs.Written.{Puts, PutsJson};
+ghost use Rattle.protocol_values.specs.Members.{seen};
 ghost use Rattle.tera_fixes.specs.Suggestions.{suggestion_view};
 ghost use Rattle.tera_workspace.specs.Definitions.{text_view};
 ghost use Rattle.text_edits.specs.Places.{AreLinesOf};
-ghost use Rattle.tera_server.specs.Actions.{AreActions, AreActionsBy, acting_view, action_json, action_tokens, is_asked, part_tokens};
+ghost use Rattle.tera_server.specs.Actions.{AreActions, AreActionsBy, AreWanted, acting_view, action_json, action_tokens, are_wanted, covers_corrections, is_asked, is_correction, part_tokens, wants_corrections};
 ghost use Rattle.tera_server.specs.Positions.{position_at};
 ghost use Rattle.tera_server.specs.Settings.{reported_view};
 
 use crate::editor::Editor;
 use crate::findings::uri_by;
 use crate::settings::{Reported, Settings};
-use json::{Token, Writer};
+use json::{Token, Value, Writer};
 use json_members::put_tokens;
-use protocol_values::put_edit;
+use protocol_values::{items_of, member, put_edit, text_of};
 use std::alloc::{AllocError, Global};
 use tera_check::Finding;
 use tera_fixes::{Part, Suggestion, suggestions_in};
@@ -45,8 +47,75 @@ struct Edited<'d> {
     encoding: Encoding,
 }
 
-/// Writes the actions for what is found on the lines of this range: for each finding the correction that is suggested.
-pub(crate) fn put_actions(
+/// Whether the parameters of a request ask for corrections: they name no kinds, or one that covers these.
+pub(crate) fn wants_corrections(params: Option<&Value<'_>>) -> bool
+    ensures { result ≡ wants_corrections (seen params.entry) }
+{
+    match items_of(member(member(params, "context"), "only")) {
+        Some(kinds) => are_wanted(kinds),
+        None => true,
+    }
+}
+
+// Whether corrections are of these kinds, or no kinds are named.
+fn are_wanted(kinds: &[Value<'_>]) -> bool
+    ensures { result ≡ are_wanted (map value_view kinds.now) }
+{
+    match kinds {
+        [] => true,
+        kinds => is_any_correction(kinds),
+    }
+}
+
+fn is_any_correction(kinds: &[Value<'_>]) -> bool
+    ensures { result ≡ list_any is_correction (map value_view kinds.now) }
+{
+    for kind in kinds {
+        if is_correction(kind) {
+            return true;
+        }
+    }
+    false
+}
+
+fn is_correction(kind: &Value<'_>) -> bool
+    ensures { result ≡ is_correction (value_view kind.now) }
+{
+    match text_of(Some(kind)) {
+        Some(kind) => covers_corrections(kind),
+        None => false,
+    }
+}
+
+fn covers_corrections(kind: &str) -> bool
+    ensures { result ≡ covers_corrections kind.now }
+{
+    matches!(kind, "" | "quickfix")
+}
+
+/// Writes the actions for what is found on the lines of this range, if they are wanted; otherwise none.
+pub(crate) fn put_if_wanted(
+    alloc: Global,
+    out: &mut Writer,
+    wanted: bool,
+    acting: Acting<'_>,
+    document: FileText<'_>,
+    range: (Position, Position),
+) -> Result<(), AllocError>
+    ensures tokens { OnOk result ((j : Json)
+        × AreWanted wanted (acting_view acting.entry) (text_view document.entry) range j
+        × (out.new.tokens ≡ out.old.tokens ++ json_tokens j)) }
+    ensures before { out.new.before ≡ out.old.before }
+{
+    if wanted {
+        put_actions(alloc, out, acting, document, range)
+    } else {
+        put_tokens(out, &[Token::BeginArray, Token::EndArray])
+    }
+}
+
+// For each finding on the lines of the range the correction that is suggested.
+fn put_actions(
     alloc: Global,
     out: &mut Writer,
     acting: Acting<'_>,

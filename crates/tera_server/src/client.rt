@@ -2,7 +2,7 @@
 
 ghost use Rattle.std.specs.Prelude.{◌≡◌};
 ghost use Rattle.protocol_values.specs.Members.{seen};
-ghost use Rattle.tera_server.specs.Clients.{client_in, offered_in, related_in, watches_in};
+ghost use Rattle.tera_server.specs.Clients.{client_in, labels_in, offered_in, related_in, watches_in};
 
 use json::Value;
 use protocol_values::{encoding_of, is_set, member};
@@ -17,6 +17,8 @@ pub(crate) struct Client {
     pub(crate) related: bool,
     /// Whether it can be asked to watch files.
     pub(crate) watches: bool,
+    /// Whether it takes the place of a parameter in a head, and not only its name.
+    pub(crate) labels: bool,
 }
 
 impl Client {
@@ -25,6 +27,7 @@ impl Client {
         encoding: Encoding::Utf16,
         related: false,
         watches: false,
+        labels: false,
     };
 
     /// What the parameters of `initialize` say.
@@ -36,6 +39,7 @@ impl Client {
             encoding: encoding_of(offered(capabilities)),
             related: is_set(related(capabilities)),
             watches: is_set(watches(capabilities)),
+            labels: is_set(labels(capabilities)),
         }
     }
 }
@@ -59,4 +63,12 @@ fn watches<'m, 'a>(capabilities: Option<&'m Value<'a>>) -> Option<&'m Value<'a>>
     let workspace = member(capabilities, "workspace");
     let files = member(workspace, "didChangeWatchedFiles");
     member(files, "dynamicRegistration")
+}
+
+fn labels<'m, 'a>(capabilities: Option<&'m Value<'a>>) -> Option<&'m Value<'a>>
+    ensures { seen result ≡ labels_in (seen capabilities.entry) }
+{
+    let help = member(member(capabilities, "textDocument"), "signatureHelp");
+    let parameter = member(member(help, "signatureInformation"), "parameterInformation");
+    member(parameter, "labelOffsetSupport")
 }

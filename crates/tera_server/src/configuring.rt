@@ -1,11 +1,11 @@
 //! The settings of a folder, as they are given to a server.
 
-ghost use Rattle.std.specs.Prelude.{◌≡◌, ◌++◌, true, map, string_bytes, IfOk, OnOk, OnErr};
+ghost use Rattle.std.specs.Prelude.{◌≡◌, ◌++◌, false, true, map, string_bytes, IfOk, OnOk, OnErr};
 ghost use Rattle.std.specs.List.{filter, flat_map};
 ghost use Rattle.tera_workspace.specs.Definitions.{texts_read};
-ghost use Rattle.tera_server.specs.Configuring.{AreFoundSet, ArePublishedAgain, IsConfiguredBy, IsUnconfigured, is_reported_inside, settings_by};
+ghost use Rattle.tera_server.specs.Configuring.{AreFoundSet, ArePublishedAgain, IsConfiguredBy, IsUnconfigured, is_due_inside, is_listed_by, settings_by};
 ghost use Rattle.tera_server.specs.Sending.{unpublished_of};
-ghost use Rattle.tera_server.specs.Settings.{is_in_library, rules_of, settings_for, settings_in, settings_view};
+ghost use Rattle.tera_server.specs.Settings.{is_in_library, reported_in, settings_for, settings_in, settings_view};
 ghost use Rattle.tera_server.specs.States.{Grows, edited_of, needed_of, needs};
 ghost use Rattle.tera_server.specs.UnreadFiles.{reason_view, why_of};
 ghost use Rattle.tera_server.specs.declared.configuring.FoundSettings.TheVariants as found_as;
@@ -24,8 +24,8 @@ use tera_workspace::Workspace;
 pub enum FoundSettings {
     /// There is no file of settings.
     Nothing,
-    /// The file of this path has these.
-    Set(String, FolderSettings),
+    /// The file of this path has these, and a reason if something in it has no effect in a server.
+    Set(String, FolderSettings, Option<Reason>),
     /// The file of this path has none, for this reason. Those of the folder that were there stay.
     Wrong(String, Reason),
 }
@@ -41,8 +41,9 @@ impl Server {
         self.settings.of(self.folders.as_slice(), path)
     }
 
-    /// This was found for the folder, and counts for the files in it from now on. If rules are set otherwise than
-    /// before, what was reported of these is published again. After an allocation failure a part of that may be so.
+    /// This was found for the folder, and counts for the files in it from now on. If something else is reported of them
+    /// than before, by other rules or markers, it is published again; if something is listed that the program registers,
+    /// each of them is. After an allocation failure a part of that may be so.
     pub fn configure(
         &mut self,
         alloc: Global,
@@ -79,20 +80,45 @@ impl Server {
         )
     }
 
-    // Whether by what was found rules are set in the folder as before.
-    fn keeps_rules(&self, folder: &str, found: &FoundSettings) -> bool
+    // Whether by what was found the same is reported in the folder as before.
+    fn keeps_report(&self, folder: &str, found: &FoundSettings) -> bool
         ensures { let old = settings_in self.now.settings folder.now in
-            result ≡ true → rules_of (settings_by found.now old) ≡ rules_of old }
+            result ≡ true → reported_in (settings_by found.now old) ≡ reported_in old }
     {
-        let rules = self.settings.rules_in(folder);
+        let before = self.settings.reported_in(folder);
         match found {
-            FoundSettings::Nothing => rules.is_empty(),
-            FoundSettings::Set(_, settings) => rules == settings.rules.as_slice(),
+            FoundSettings::Nothing => before.is_by(&[]),
+            FoundSettings::Set(_, settings, _) => settings.reported().is_same(before),
             FoundSettings::Wrong(_, _) => true,
         }
     }
 
-    // Where rules are set otherwise, what was reported of the files in the folder is to be published.
+    // Whether something is listed that the program registers, by what was found, or was before.
+    fn is_listed(&self, folder: &str, found: &FoundSettings) -> bool
+        ensures { result ≡ is_listed_by found.now (settings_in self.now.settings folder.now) }
+    {
+        match found {
+            FoundSettings::Nothing => self.settings.lists_in(folder),
+            FoundSettings::Set(_, settings, _) => {
+                settings.has_list() || self.settings.lists_in(folder)
+            }
+            FoundSettings::Wrong(_, _) => false,
+        }
+    }
+
+    // Whether by what was found nothing is to be published again. `all` says that something is listed.
+    fn keeps_published(&self, folder: &str, found: &FoundSettings, all: bool) -> bool
+        ensures { let old = settings_in self.now.settings folder.now in
+            result ≡ true → (all ≡ false) × (reported_in (settings_by found.now old) ≡ reported_in old) }
+    {
+        if all {
+            return false;
+        }
+        self.keeps_report(folder, found)
+    }
+
+    // Where something else is reported than before, what was reported of the files in the folder is to be published; where
+    // something is listed, each of them is.
     fn publish_if_others(
         &mut self,
         alloc: Global,
@@ -103,21 +129,22 @@ impl Server {
         ensures published { OnOk result (ArePublishedAgain folder.now found.now self.old self.new) }
         ensures grows { Grows (unpublished_of self.old) (unpublished_of self.new) }
     {
-        if self.keeps_rules(folder, found) {
+        let all = self.is_listed(folder, found);
+        if self.keeps_published(folder, found, all) {
             Ok(())
         } else {
-            self.publish_again(alloc, folder)
+            self.publish_again(alloc, folder, all)
         }
     }
 
-    fn publish_again(&mut self, alloc: Global, folder: &str) -> Result<(), AllocError>
+    fn publish_again(&mut self, alloc: Global, folder: &str, all: bool) -> Result<(), AllocError>
         ensures same { self.new ≡ record self.old { unpublished = self.new.unpublished } }
         ensures published { OnOk result (unpublished_of self.new ≡ unpublished_of self.old
-            ++ filter (is_reported_inside self.old.workspace folder.now)
+            ++ filter (is_due_inside self.old.workspace folder.now all)
             (map (λ s. s.name) (texts_read self.old.workspace))) }
         ensures err { OnErr result (unpublished_of self.new ≡ unpublished_of self.old) }
     {
-        let mut names = reported_inside(alloc, &self.workspace, folder)?;
+        let mut names = due_inside(alloc, &self.workspace, folder, all)?;
         self.unpublished.append(&mut names)?;
         Ok(())
     }
@@ -152,7 +179,9 @@ impl Server {
                 self.settings.remove(folder);
                 Ok(())
             }
-            FoundSettings::Set(file, settings) => self.set_settings(alloc, folder, file, settings),
+            FoundSettings::Set(file, settings, why) => {
+                self.set_settings(alloc, folder, file, settings, why)
+            }
             FoundSettings::Wrong(file, why) => self.set_wrong(alloc, folder, file, why),
         }
     }
@@ -163,13 +192,14 @@ impl Server {
         folder: &str,
         file: String,
         settings: FolderSettings,
+        why: Option<Reason>,
     ) -> Result<(), AllocError>
         ensures same { self.new ≡ record self.old
             { settings = self.new.settings; unread = self.new.unread; edited = self.new.edited } }
-        ensures set { OnOk result (AreFoundSet folder.now (found_as.Set file settings) self.old self.new) }
+        ensures set { OnOk result (AreFoundSet folder.now (found_as.Set file settings why) self.old self.new) }
         ensures grows { Grows (edited_of self.old) (edited_of self.new) }
     {
-        self.report_why(alloc, file.as_str(), None)?;
+        self.report_why(alloc, file.as_str(), why)?;
         self.settings.set(alloc, folder, file, settings)
     }
 
@@ -189,7 +219,8 @@ impl Server {
         self.settings.set_file(alloc, folder, file)
     }
 
-    // This is wrong in a file of settings, or nothing is. Where that is something else than before, it is published.
+    // This is wrong in a file of settings, or has no effect, or nothing is. Where that is something else than before, it is
+    // published.
     fn report_why(
         &mut self,
         alloc: Global,
@@ -204,27 +235,28 @@ impl Server {
     }
 }
 
-// The names of the documents in the folder of which anything was reported.
-fn reported_inside(
+// The names of the documents in the folder of which anything was reported, or of all.
+fn due_inside(
     alloc: Global,
     workspace: &Workspace,
     folder: &str,
+    all: bool,
 ) -> Result<Vec<String>, AllocError>
-    ensures { IfOk result (λ v. map string_bytes v.items ≡ filter (is_reported_inside workspace.now folder.now)
+    ensures { IfOk result (λ v. map string_bytes v.items ≡ filter (is_due_inside workspace.now folder.now all)
         (map (λ s. s.name) (texts_read workspace.now))) }
 {
     let texts = workspace.texts(alloc)?;
     let mut names = Vec::new(alloc);
     for text in &texts {
-        if is_reported_inside(workspace, folder, text.file) {
+        if is_due_inside(workspace, folder, all, text.file) {
             names.push(String::from_str(alloc, text.file)?)?;
         }
     }
     Ok(names)
 }
 
-fn is_reported_inside(workspace: &Workspace, folder: &str, name: &str) -> bool
-    ensures { result ≡ is_reported_inside workspace.now folder.now name.now }
+fn is_due_inside(workspace: &Workspace, folder: &str, all: bool, name: &str) -> bool
+    ensures { result ≡ is_due_inside workspace.now folder.now all name.now }
 {
-    is_inside(folder, name) && !workspace.reported(name).is_empty()
+    is_inside(folder, name) && (all || !workspace.reported(name).is_empty())
 }

@@ -1,18 +1,20 @@
 //! What is found in a document, as it is published.
 
-ghost use Rattle.std.specs.Prelude.{◌≡◌, ◌∷◌, [], map, string_bytes, IfOk, OnOk, OnErr};
+ghost use Rattle.std.specs.Prelude.{◌≡◌, ◌++◌, ◌∷◌, [], ℕ, List, map, string_bytes, IfOk, OnOk, OnErr};
+ghost use Rattle.std.specs.List.{flat_map};
 ghost use Rattle.std.specs.Option.{option_map};
 ghost use Rattle.json_members.specs.Written.{Puts, PutsJson};
 ghost use Rattle.tera_workspace.specs.Diagnostics.{diagnostic_view, related_view};
+ghost use Rattle.tera_workspace.specs.Names.{contains_name, is_among};
+ghost use Rattle.tera_workspace.specs.Unregistered.{unknown_of_name};
 ghost use Rattle.tera_server.specs.Editors.{seen_of, uri_in, version_in};
-ghost use Rattle.tera_server.specs.Findings.{one_related, related_tokens, severity_number, one_found, found_if_on, found_json, reason_code, reason_tokens, version_tokens};
-ghost use Rattle.tera_server.specs.Sending.{with_all, messages_in, publisher, SendsFirst, names_beside};
-ghost use Rattle.tera_server.specs.Settings.{reported_for, reported_view, shown_in};
-ghost use Rattle.tera_server.specs.UnreadFiles.{reason_view, why_of};
+ghost use Rattle.tera_server.specs.Findings.{one_related, related_tokens, one_found, found_if_on, found_json, reason_code, reason_tokens, version_tokens};
+ghost use Rattle.tera_server.specs.Sending.{with_all, messages_in, publisher, SendsFirst, names_once, unknown_for};
+ghost use Rattle.tera_server.specs.Settings.{registered_in, reported_for, reported_view, settings_view, shown_in};
+ghost use Rattle.tera_server.specs.UnreadFiles.{reason_view, severity_number, why_of};
 
 use crate::editor::{DocumentState, Editor};
-use crate::notes::has_name;
-use crate::settings::{Reported, Settings};
+use crate::settings::{FolderSettings, Reported, Settings};
 use crate::unread::{Reason, UnreadFiles};
 use file_uris::uri_of;
 use json::{Token, Writer};
@@ -20,6 +22,7 @@ use json_members::{put_number, put_tokens};
 use json_rpc::{Outbox, begin_notification, end_message};
 use protocol_values::{put_location, put_range};
 use std::alloc::{AllocError, Global};
+use std::collections::BTreeSet;
 use tera_check::Severity;
 use tera_workspace::{Diagnostic, Related, Workspace};
 use text_edits::Position;
@@ -32,32 +35,46 @@ pub(crate) struct Publishing<'e> {
     pub(crate) unread: &'e UnreadFiles,
     /// Whether what explains a finding is reported beside it.
     pub(crate) related: bool,
-    /// What rules are set to, by the folders that are open.
+    /// What rules are set to and what the program registers, by the folders that are open.
     pub(crate) settings: &'e Settings,
     pub(crate) folders: &'e [String],
 }
 
-/// Publishes what was reported last of the documents of these names, but not of the others among them. Where the editor
-/// has one open with a text that is not known, nothing is published of it.
-pub(crate) fn publish_each(
+/// Publishes what was reported last of the documents of these names, each once, but not of the others among them. Where
+/// the editor has one open with a text that is not known, nothing is published of it.
+pub(crate) fn publish_each<'n>(
     alloc: Global,
     publishing: Publishing<'_>,
     workspace: &Workspace,
-    names: &[String],
-    others: &[String],
+    names: &'n [String],
+    others: &'n [String],
     out: &mut Outbox,
 ) -> Result<(), AllocError>
     ensures published { OnOk result (out.new ≡ with_all out.old (messages_in (publisher publishing.entry) workspace.now
-        (names_beside (map string_bytes others.now) (map string_bytes names.now)))) }
+        (names_once (map string_bytes others.now) (map string_bytes names.now)))) }
     ensures in_part { OnErr result (SendsFirst (λ ns. messages_in (publisher publishing.entry) workspace.now
-        (names_beside (map string_bytes others.now) ns)) (map string_bytes names.now) out.old out.new) }
+        (names_once (map string_bytes others.now) ns)) (map string_bytes names.now) out.old out.new) }
 {
+    let mut done = set_of(alloc, others)?;
     for name in names {
-        if !has_name(others, name.as_str()) {
-            publish(alloc, publishing, workspace, name.as_str(), out)?;
+        let name = name.as_str();
+        if !done.contains(name) {
+            done.insert(name)?;
+            publish(alloc, publishing, workspace, name, out)?;
         }
     }
     Ok(())
+}
+
+fn set_of<'n>(alloc: Global, names: &'n [String]) -> Result<BTreeSet<&'n str>, AllocError>
+    ensures { IfOk result (λ all. (n : List ℕ) →
+        contains_name all n ≡ is_among n (map string_bytes names.now)) }
+{
+    let mut all = BTreeSet::new(alloc);
+    for name in names {
+        all.insert(name.as_str())?;
+    }
+    Ok(all)
 }
 
 fn publish(
@@ -73,6 +90,7 @@ fn publish(
 {
     match publishing.editor.state(name) {
         DocumentState::Open | DocumentState::Closed => {
+            let unknown = unknown_in(alloc, publishing, workspace, name)?;
             let mut message = begin_notification(alloc, "textDocument/publishDiagnostics")?;
             put_published(
                 alloc,
@@ -80,6 +98,7 @@ fn publish(
                 publishing,
                 name,
                 workspace.reported(name),
+                unknown.as_slice(),
             )?;
             out.push(end_message(message)?)
         }
@@ -87,18 +106,50 @@ fn publish(
     }
 }
 
+// The filters, tests and functions in the document that the program does not have, if the settings list some.
+fn unknown_in(
+    alloc: Global,
+    publishing: Publishing<'_>,
+    workspace: &Workspace,
+    name: &str,
+) -> Result<Vec<Diagnostic>, AllocError>
+    ensures { IfOk result (λ v. map diagnostic_view v.items
+        ≡ unknown_for (publisher publishing.entry) workspace.now name.now) }
+{
+    match publishing.settings.listing(publishing.folders, name) {
+        Some(settings) => unknown_by(alloc, settings, workspace, name),
+        None => Ok(Vec::new(alloc)),
+    }
+}
+
+fn unknown_by(
+    alloc: Global,
+    settings: &FolderSettings,
+    workspace: &Workspace,
+    name: &str,
+) -> Result<Vec<Diagnostic>, AllocError>
+    ensures { IfOk result (λ v. map diagnostic_view v.items
+        ≡ unknown_of_name workspace.now (registered_in (settings_view settings.now)) name.now) }
+{
+    let registered = settings.registered(alloc)?;
+    workspace.unknown_of(alloc, name, &registered)
+}
+
+// What was reported for the document, and what is unknown in it.
 fn put_published(
     alloc: Global,
     out: &mut Writer,
     publishing: Publishing<'_>,
     name: &str,
     found: &[Diagnostic],
+    unknown: &[Diagnostic],
 ) -> Result<(), AllocError>
     ensures { PutsJson result out.old out.new
         (found_json publishing.entry.editor.now publishing.entry.related name.now
         (why_of publishing.entry.unread.now name.now)
         (shown_in (reported_for publishing.entry.settings.now
-        (map string_bytes publishing.entry.folders.now) name.now) (map diagnostic_view found.now))) }
+        (map string_bytes publishing.entry.folders.now) name.now)
+        (map diagnostic_view found.now ++ map diagnostic_view unknown.now))) }
 {
     let uri = uri_by(alloc, publishing.editor, name)?;
     put_tokens(
@@ -113,10 +164,27 @@ fn put_published(
     put_tokens(out, &[Token::Key("diagnostics"), Token::BeginArray])?;
     put_reason(out, publishing.unread.of(name))?;
     let reported = publishing.settings.reported(publishing.folders, name);
+    put_found(alloc, out, publishing, reported, found)?;
+    put_found(alloc, out, publishing, reported, unknown)?;
+    put_tokens(out, &[Token::EndArray, Token::EndObject])
+}
+
+// Those of the findings that are reported.
+fn put_found(
+    alloc: Global,
+    out: &mut Writer,
+    publishing: Publishing<'_>,
+    reported: Reported<'_>,
+    found: &[Diagnostic],
+) -> Result<(), AllocError>
+    ensures { Puts result out.old out.new
+        (flat_map (found_if_on publishing.entry.editor.now publishing.entry.related
+        (reported_view reported.entry)) (map diagnostic_view found.now)) }
+{
     for diagnostic in found {
         put_if_on(alloc, out, publishing, reported, diagnostic)?;
     }
-    put_tokens(out, &[Token::EndArray, Token::EndObject])
+    Ok(())
 }
 
 /// The URI of the document of this name: as the editor writes it, where it reported about it.
@@ -156,7 +224,7 @@ fn put_reason(out: &mut Writer, why: Option<&Reason>) -> Result<(), AllocError>
     };
     out.begin_object()?;
     put_range(out, "range", at, at)?;
-    put_number(out, "severity", severity_number(Severity::Error))?;
+    put_number(out, "severity", severity_number(why.severity))?;
     put_tokens(
         out,
         &[
@@ -229,8 +297,8 @@ fn put_diagnostic(
     out.end_object()
 }
 
-// How the protocol has it.
-fn severity_number(severity: Severity) -> usize
+/// How the protocol has it.
+pub(crate) fn severity_number(severity: Severity) -> usize
     ensures { result ≡ severity_number severity }
 {
     match severity {

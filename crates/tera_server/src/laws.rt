@@ -26,7 +26,7 @@ ghost use Rattle.tera_server.specs.Hovers.{IsHead, IsOfDefinition};
 ghost use Rattle.tera_server.specs.Outlines.{nested, in_order, AreWithin, IsSelectable};
 ghost use Rattle.tera_server.specs.Positions.{position_at};
 ghost use Rattle.tera_server.specs.References.{LookedFor, AreReferences, IsReferenceIn, AreAllOf};
-ghost use Rattle.tera_server.specs.Settings.{RegisteredVal, level_by, level_view};
+ghost use Rattle.tera_server.specs.Settings.{ByRules, RegisteredVal, level_by, level_view};
 ghost use Rattle.tera_server.specs.SemanticTokens.{all_kinds, kind_name, kind_number, placed, data_of, first, sent_token, read_from, end_of, AreApart};
 ghost use Rattle.tera_server.specs.Templates.{template_in, template_name, IsTemplateOf};
 
@@ -40,7 +40,7 @@ pub fn all_symbols()
 /// A finding counts for what it does in `tera check` by the same settings, where no option says anything else.
 pub fn levels_are_those_of_check()
     ensures { (levels : Levels) (kind : Kind) → levels.select ≡ None → levels.ignore ≡ None →
-        level_by (Some (map level_view levels.set.now)) kind ≡ level_of levels kind }
+        level_by (ByRules (map level_view levels.set.now)) kind ≡ level_of levels kind }
 {}
 
 /// What is reported in a symbol begins after its start and ends no later than it, and what is reported after it begins

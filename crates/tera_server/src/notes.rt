@@ -261,7 +261,7 @@ pub(crate) fn add_name(alloc: Global, name: &str, names: &mut Vec<String>) -> Re
 }
 
 // Whether the name is one of these.
-pub(crate) fn has_name(names: &[String], name: &str) -> bool
+fn has_name(names: &[String], name: &str) -> bool
     ensures { result ≡ list_any (λ m. bytes_eq m name.now) (map string_bytes names.now) }
 {
     names.iter().any(|one| one.as_str() == name)

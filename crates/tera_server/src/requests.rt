@@ -7,15 +7,15 @@ ghost use Rattle.json_rpc.specs.Writing.{body, answer};
 ghost use Rattle.json_rpc.specs.declared.code.Code.TheVariants.{InternalError};
 ghost use Rattle.protocol_values.specs.Members.{seen, member_of, text_in};
 ghost use Rattle.tera_server.specs.Abilities.{abilities_json};
-ghost use Rattle.tera_server.specs.Actions.{acting_view};
+ghost use Rattle.tera_server.specs.Actions.{acting_view, wants_corrections};
 ghost use Rattle.tera_outline.specs.Names.{name_view};
 ghost use Rattle.tera_server.specs.Clients.{client_in};
 ghost use Rattle.tera_server.specs.Notes.{document_in, uri_given, AreNames};
-ghost use Rattle.tera_server.specs.Requests.{asked_of, folders_in, IsBegun, IsOpenAs, IsNotOpen, RefusesDocument, RefusesPlace, IsMeant, IsMeantAs, acting_of, range_given, AreOfRange, IsResultOfText, IsResultOfName, IsResultAt, place_in, IsPut, IsAnsweredBy};
+ghost use Rattle.tera_server.specs.Requests.{asked_of, folders_in, IsBegun, IsOpenAs, IsNotOpen, RefusesDocument, RefusesPlace, IsMeantAs, acting_of, range_given, AreOfRange, has_other_markers, IsReadAs, IsResultOfDocument, IsResultOfText, IsResultOfName, IsResultAt, place_in, IsPut, IsAnsweredBy};
 ghost use Rattle.tera_server.specs.declared.server.Phase.TheVariants.{Running};
 
 use crate::abilities::put_abilities;
-use crate::actions::{Acting, put_actions};
+use crate::actions::{Acting, put_if_wanted, wants_corrections};
 use crate::client::Client;
 use crate::completions::{Offering, put_completion};
 use crate::definitions::{name_at, put_definition};
@@ -26,6 +26,7 @@ use crate::notes::{names_in, push_name};
 use crate::references::{Search, put_references};
 use crate::semantic_tokens::put_semantic_tokens;
 use crate::server::{Phase, Server};
+use crate::signatures::put_signature;
 use crate::symbols::put_outline;
 use file_uris::name_of;
 use json::{Value, Writer};
@@ -60,6 +61,7 @@ pub(crate) enum TextRequest {
 pub(crate) enum PlaceRequest {
     OfName(NameRequest),
     Completion,
+    Signature,
 }
 
 /// What a request asks of the name at a position.
@@ -88,6 +90,7 @@ impl Asked {
                 NameRequest::References,
             )),
             "textDocument/completion" => Asked::AtPlace(PlaceRequest::Completion),
+            "textDocument/signatureHelp" => Asked::AtPlace(PlaceRequest::Signature),
             "textDocument/semanticTokens/full" => Asked::OfText(TextRequest::SemanticTokens),
             "textDocument/codeAction" => Asked::Actions,
             _ => Asked::Other,
@@ -174,10 +177,7 @@ impl Server {
         match asked {
             Asked::Initialize => Err(Code::InvalidRequest),
             Asked::Shutdown => Ok(out.null()?),
-            Asked::OfText(request) => {
-                let text = self.text_meant(alloc, params)?;
-                Ok(put_result_of_text(alloc, out, request, self.client.encoding, text)?)
-            }
+            Asked::OfText(request) => self.put_result_of_document(alloc, out, request, params),
             Asked::AtPlace(request) => {
                 self.workspace.read(alloc)?; // What is reported is given by the texts as they are.
                 self.put_result_at(alloc, out, request, params)
@@ -187,6 +187,53 @@ impl Server {
                 self.put_actions_within(alloc, out, params)
             }
             Asked::Other => Err(Code::MethodNotFound),
+        }
+    }
+
+    // Writes what is asked of the text that the parameters name, or `null` where it is not read between its markers.
+    fn put_result_of_document(
+        &self,
+        alloc: Global,
+        out: &mut Writer,
+        request: TextRequest,
+        params: Option<&Value<'_>>,
+    ) -> Result<(), Code>
+        ensures result { MatchResult result
+            (λ _. (j : Json) × IsResultOfDocument request (uri_given (document_in (seen params.entry))) self.now j
+            × (out.new.tokens ≡ out.old.tokens ++ json_tokens j))
+            (λ code. (code ≡ InternalError) ⊎ RefusesDocument (uri_given (document_in (seen params.entry))) self.now code) }
+        ensures before { out.new.before ≡ out.old.before }
+    {
+        let (name, text) = self.document_meant(alloc, params)?;
+        Ok(self.put_result_if_read(alloc, out, request, name.as_str(), text)?)
+    }
+
+    fn put_result_if_read(
+        &self,
+        alloc: Global,
+        out: &mut Writer,
+        request: TextRequest,
+        name: &str,
+        text: &str,
+    ) -> Result<(), AllocError>
+        ensures tokens { OnOk result ((j : Json)
+            × IsReadAs (has_other_markers self.now name.now) (IsResultOfText request self.now.client.encoding text.now) j
+            × (out.new.tokens ≡ out.old.tokens ++ json_tokens j)) }
+        ensures before { out.new.before ≡ out.old.before }
+    {
+        if self.has_other_markers(name) {
+            return out.null();
+        }
+        put_result_of_text(alloc, out, request, self.client.encoding, text)
+    }
+
+    // Whether the document is not read between its markers.
+    fn has_other_markers(&self, name: &str) -> bool
+        ensures { result ≡ has_other_markers self.now name.now }
+    {
+        match self.settings.of(self.folders.as_slice(), name) {
+            Some(settings) => settings.other_markers,
+            None => false,
         }
     }
 
@@ -224,6 +271,10 @@ impl Server {
                 let encoding = self.client.encoding;
                 Ok(put_completion(alloc, out, offering, registered, encoding, text, position)?)
             }
+            PlaceRequest::Signature => {
+                let workspace = &self.workspace;
+                Ok(put_signature(alloc, out, workspace, self.client, text, position)?)
+            }
         }
     }
 
@@ -235,7 +286,7 @@ impl Server {
         params: Option<&Value<'_>>,
     ) -> Result<(), Code>
         ensures result { MatchResult result
-            (λ _. (j : Json) × AreOfRange (range_given (seen params.entry)) (uri_given (document_in (seen params.entry))) self.now j
+            (λ _. (j : Json) × AreOfRange (wants_corrections (seen params.entry)) (range_given (seen params.entry)) (uri_given (document_in (seen params.entry))) self.now j
             × (out.new.tokens ≡ out.old.tokens ++ json_tokens j))
             (λ code. (code ≡ InternalError)
             ⊎ RefusesPlace (range_given (seen params.entry)) (uri_given (document_in (seen params.entry))) self.now code) }
@@ -249,7 +300,8 @@ impl Server {
             file: name.as_str(),
             text,
         };
-        Ok(put_actions(alloc, out, self.acting(), document, range)?)
+        let wanted = wants_corrections(params);
+        Ok(put_if_wanted(alloc, out, wanted, self.acting(), document, range)?)
     }
 
     // By what actions are offered.
@@ -305,16 +357,7 @@ impl Server {
         }
     }
 
-    // The text of the document that the parameters name, which the editor has open.
-    fn text_meant(&self, alloc: Global, params: Option<&Value<'_>>) -> Result<&str, Code>
-        ensures { MatchResult result (λ text. IsMeant (uri_given (document_in (seen params.entry))) self.now text.now)
-            (λ code. (code ≡ InternalError) ⊎ RefusesDocument (uri_given (document_in (seen params.entry))) self.now code) }
-    {
-        let (_, text) = self.document_meant(alloc, params)?;
-        Ok(text)
-    }
-
-    // The name of this document, and its text.
+    // The name of the document that the parameters name, and its text, which the editor has open.
     fn document_meant(
         &self,
         alloc: Global,

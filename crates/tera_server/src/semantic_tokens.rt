@@ -116,7 +116,7 @@ fn distance(last: Position, position: Position) -> usize
 }
 
 #[tactic(auto, unfolding(crate::specs::SemanticTokens::number_tokens))]
-fn put_numbers(out: &mut Writer, numbers: &[usize]) -> Result<(), AllocError>
+pub(crate) fn put_numbers(out: &mut Writer, numbers: &[usize]) -> Result<(), AllocError>
     ensures { Puts result out.old out.new (flat_map number_tokens numbers.now) }
 {
     for number in numbers {

@@ -13,7 +13,7 @@ ghost use Rattle.tera_workspace.specs.Workspaces.{reported_of_name, IsKept};
 ghost use Rattle.text_edits.specs.Documents.{no_document};
 ghost use Rattle.tera_server.specs.Sending.{unpublished_of};
 ghost use Rattle.tera_server.specs.Settling.{IsSettling, ArePublishedInPart, OnlyReports};
-ghost use Rattle.tera_server.specs.States.{IsMissed, IsLoadedAs, IsNotLoaded, known_of, text_on, why_on, is_there, needed_of, needed_view, edited_of, edited_by, with_name, KeepsReported, StaysBut};
+ghost use Rattle.tera_server.specs.States.{IsMissed, IsLoadedAs, IsNotLoaded, known_of, text_on, why_on, is_there, needed_of, needed_view, edited_of, edited_by, edited_more, edited_with, lists_for, with_name, KeepsReported, StaysBut};
 ghost use Rattle.tera_server.specs.Steps.{ended_at, Step, IsRefused, IsUntaken, IsUntakenBy, KeepsUp};
 ghost use Rattle.tera_server.specs.KnownFiles.{is_known, known_names, IsKnownAs};
 ghost use Rattle.tera_server.specs.Templates.{is_inside};
@@ -289,7 +289,7 @@ impl Server {
         match found {
             OnDisk::Text(text) => {
                 self.known.add(alloc, path)?;
-                self.set_why(alloc, path, None)?;
+                self.set_why_of(alloc, path, None)?;
                 self.workspace.set_file(alloc, path, text.as_str())
             }
             OnDisk::Unread(why) => {
@@ -334,8 +334,57 @@ impl Server {
         ensures loaded { OnOk result (IsLoadedAs path.now None (option_map reason_view why) self.old self.new) }
         ensures err { OnErr result (IsNotLoaded path.now self.old self.new) }
     {
-        self.set_why(alloc, path, why)?;
+        self.set_why_of(alloc, path, why)?;
         self.workspace.remove_file(alloc, path)
+    }
+
+    // This is why a file that is given cannot be read, or nothing is. It is published as in `set_why`, and also where
+    // something is listed that the program registers, as something else may be unknown in it.
+    fn set_why_of(
+        &mut self,
+        alloc: Global,
+        path: &str,
+        why: Option<Reason>,
+    ) -> Result<(), AllocError>
+        ensures same { self.new ≡ record self.old { unread = self.new.unread; edited = self.new.edited } }
+        ensures set { OnOk result (IsWhyAt path.now (option_map reason_view why) self.old.unread self.new.unread) }
+        ensures edited { OnOk result (edited_of self.new
+            ≡ edited_with path.now (option_map reason_view why) self.old) }
+        ensures unset { OnErr result ((n : List ℕ) → why_of self.new.unread n ≡ why_of self.old.unread n) }
+        ensures unedited { OnErr result ((edited_of self.new ≡ edited_of self.old)
+            ⊎ (edited_of self.new ≡ edited_more path.now self.old)) }
+    {
+        if self.lists_for(path) {
+            self.set_why_anyhow(alloc, path, why)
+        } else {
+            self.set_why(alloc, path, why)
+        }
+    }
+
+    // Whether something is listed that the program registers, by the settings that count for the file.
+    fn lists_for(&self, path: &str) -> bool
+        ensures { result ≡ lists_for self.now path.now }
+    {
+        self.settings.lists_for(self.folders.as_slice(), path)
+    }
+
+    // The same as `set_why`, but the file is published anyhow. Its name is not looked for among those that are due, which
+    // may be as many as there are files: each of them is published once.
+    fn set_why_anyhow(
+        &mut self,
+        alloc: Global,
+        path: &str,
+        why: Option<Reason>,
+    ) -> Result<(), AllocError>
+        ensures same { self.new ≡ record self.old { unread = self.new.unread; edited = self.new.edited } }
+        ensures set { OnOk result (IsWhyAt path.now (option_map reason_view why) self.old.unread self.new.unread) }
+        ensures edited { OnOk result (edited_of self.new ≡ edited_of self.old ++ path.now ∷ []) }
+        ensures unset { OnErr result ((n : List ℕ) → why_of self.new.unread n ≡ why_of self.old.unread n) }
+        ensures unedited { OnErr result ((edited_of self.new ≡ edited_of self.old)
+            ⊎ (edited_of self.new ≡ edited_of self.old ++ path.now ∷ [])) }
+    {
+        self.edited.push(String::from_str(alloc, path)?)?;
+        self.unread.set(alloc, path, why)
     }
 
     // This is why the file cannot be read, or is wrong, or nothing is. Where that is something else than before, it is

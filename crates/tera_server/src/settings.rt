@@ -1,14 +1,15 @@
 //! What settings say of the templates below folders.
 
-ghost use Rattle.std.specs.Prelude.{◌≡◌, ℕ, List, None, Some, map, string_bytes, IfSome, OnOk, OnErr};
-ghost use Rattle.std.specs.Option.{option_map};
+ghost use Rattle.std.specs.Prelude.{◌≡◌, ℕ, List, None, Some, true, map, string_bytes, IfOk, IfSome, OnOk, OnErr};
+ghost use Rattle.std.specs.Option.{is_some, option_map};
+ghost use Rattle.tera_check.specs.Registered.{AreListed, list_view, registered_view as all_registered};
 ghost use Rattle.tera_server.specs.Settings as specs;
-ghost use Rattle.tera_server.specs.Settings.{IsFileAt, IsSetAt, file_in, registered_view, reported_view, rule_view, settings_in, settings_view};
+ghost use Rattle.tera_server.specs.Settings.{ByRules, IsFileAt, IsSetAt, file_in, registered_view, reported_view, rule_view, settings_in, settings_view};
 
 use crate::templates::is_inside;
 use std::alloc::{AllocError, Global};
 use std::collections::BTreeMap;
-use tera_check::{Kind, Severity};
+use tera_check::{Kind, Registered, Severity};
 
 /// What settings say of the templates below a folder.
 #[derive(Debug, Drop)]
@@ -19,6 +20,9 @@ pub struct FolderSettings {
     pub exclude: Vec<String>,
     /// Files and folders with components that may be called, by the paths by which the system knows them.
     pub libraries: Vec<String>,
+    /// Whether templates in the folder are read between other markers than the usual ones. The server reads no others, so
+    /// nothing is reported of these.
+    pub other_markers: bool,
     /// What rules are set to. All others count for what [`Kind::default_level`] says.
     pub rules: Vec<RuleSetting>,
     /// The names of the filters that the program registers, if they are known.
@@ -27,6 +31,38 @@ pub struct FolderSettings {
     pub tests: Option<Vec<String>>,
     /// The names of the functions that it registers.
     pub functions: Option<Vec<String>>,
+}
+
+impl FolderSettings {
+    /// What is reported of the templates in the folder.
+    pub(crate) fn reported(&self) -> Reported<'_>
+        ensures { reported_view result ≡ specs.reported_with (settings_view self.now) }
+    {
+        if self.other_markers {
+            return Reported::Nothing;
+        }
+        Reported::By(self.rules.as_slice())
+    }
+
+    /// Whether they list anything that the program registers.
+    pub(crate) fn has_list(&self) -> bool
+        ensures { result ≡ specs.has_list (settings_view self.now) }
+    {
+        is_list(&self.filters) || is_list(&self.tests) || is_list(&self.functions)
+    }
+
+    /// What the program registers, by their lists.
+    pub(crate) fn registered(&self, alloc: Global) -> Result<Registered<'_>, AllocError>
+        ensures { let s = settings_view self.now in IfOk result (λ r.
+            AreListed s.filters s.tests s.functions (all_registered r)) }
+    {
+        Registered::of(
+            alloc,
+            list_of(&self.filters),
+            list_of(&self.tests),
+            list_of(&self.functions),
+        )
+    }
 }
 
 /// What a rule is set to. With no level its findings are off.
@@ -44,12 +80,14 @@ pub(crate) struct RegisteredNames<'s> {
     pub(crate) functions: &'s [String],
 }
 
-/// What is reported of a file beside its faults.
+/// What is reported of a file.
 #[derive(Clone, Copy)]
 pub(crate) enum Reported<'s> {
     /// What counts for anything, where these rules are set.
     By(&'s [RuleSetting]),
-    /// Nothing, as it is one of a library.
+    /// No more than faults, as it is one of a library.
+    Faults,
+    /// Nothing, as it is not read between its markers.
     Nothing,
 }
 
@@ -106,8 +144,8 @@ impl Settings {
         ensures { reported_view result ≡ specs.reported_for self.now (map string_bytes folders.now) file.now }
     {
         match folder_of(folders, file) {
-            Some(folder) => Reported::By(self.rules_in(folder)),
-            None if self.is_in_library(file) => Reported::Nothing,
+            Some(folder) => self.reported_in(folder),
+            None if self.is_in_library(file) => Reported::Faults,
             None => Reported::By(&[]),
         }
     }
@@ -124,13 +162,45 @@ impl Settings {
         false
     }
 
-    /// What rules are set to by the settings of a folder.
-    pub(crate) fn rules_in(&self, folder: &str) -> &[RuleSetting]
-        ensures { map rule_view result.now ≡ specs.rules_of (settings_in self.now folder.now) }
+    /// Those that count for a file, if they list anything that the program registers.
+    pub(crate) fn listing(&self, folders: &[String], file: &str) -> Option<&FolderSettings>
+        ensures { option_map (λ s. settings_view s.now) result
+            ≡ specs.listing_for self.now (map string_bytes folders.now) file.now }
+    {
+        match self.of(folders, file) {
+            Some(settings) => if_listing(settings),
+            None => None,
+        }
+    }
+
+    /// Whether the settings that count for a file list anything that the program registers.
+    pub(crate) fn lists_for(&self, folders: &[String], file: &str) -> bool
+        ensures { result ≡ specs.has_list_if_any
+            (specs.settings_for self.now (map string_bytes folders.now) file.now) }
+    {
+        match self.of(folders, file) {
+            Some(settings) => settings.has_list(),
+            None => false,
+        }
+    }
+
+    /// Whether those of a folder list anything that the program registers.
+    pub(crate) fn lists_in(&self, folder: &str) -> bool
+        ensures { result ≡ specs.has_list_if_any (settings_in self.now folder.now) }
     {
         match self.of_folders.get(folder) {
-            Some(settings) => settings.rules.as_slice(),
-            None => &[],
+            Some(settings) => settings.has_list(),
+            None => false,
+        }
+    }
+
+    /// What is reported of the files in a folder, by its settings.
+    pub(crate) fn reported_in(&self, folder: &str) -> Reported<'_>
+        ensures { reported_view result ≡ specs.reported_in (settings_in self.now folder.now) }
+    {
+        match self.of_folders.get(folder) {
+            Some(settings) => settings.reported(),
+            None => Reported::By(&[]),
         }
     }
 
@@ -190,6 +260,31 @@ impl Settings {
     }
 }
 
+fn if_listing(settings: &FolderSettings) -> Option<&FolderSettings>
+    ensures { option_map (λ s. settings_view s.now) result ≡ specs.if_listing (settings_view settings.now) }
+{
+    if settings.has_list() {
+        Some(settings)
+    } else {
+        None
+    }
+}
+
+fn is_list(list: &Option<Vec<String>>) -> bool
+    ensures { result ≡ is_some (specs.list_in list.now) }
+{
+    list.is_some()
+}
+
+fn list_of(list: &Option<Vec<String>>) -> Option<&[String]>
+    ensures { list_view result ≡ specs.list_in list.now }
+{
+    match list {
+        Some(names) => Some(names.as_slice()),
+        None => None,
+    }
+}
+
 // The names of a list; none, if there is none.
 fn names_in(list: &Option<Vec<String>>) -> &[String]
     ensures { map string_bytes result.now ≡ specs.names_in list.now }
@@ -224,16 +319,26 @@ impl Reported<'_> {
         ensures { result ≡ specs.level_by (reported_view self.entry) kind }
     {
         if matches!(kind, Kind::Fault) {
-            return Some(kind.severity());
+            return self.fault_level(kind);
         }
         self.set_level(kind)
     }
 
-    /// Whether findings of the kind are reported. Faults always are.
+    /// Whether findings of the kind are reported.
     pub(crate) fn has(self, kind: Kind) -> bool
         ensures { result ≡ specs.is_on (reported_view self.entry) kind }
     {
         self.level(kind).is_some()
+    }
+
+    fn fault_level(self, kind: Kind) -> Option<Severity>
+        ensures { result ≡ specs.fault_level (reported_view self.entry) kind }
+    {
+        match self {
+            Reported::By(_) => Some(kind.severity()),
+            Reported::Faults => Some(kind.severity()),
+            Reported::Nothing => None,
+        }
     }
 
     fn set_level(self, kind: Kind) -> Option<Severity>
@@ -241,7 +346,30 @@ impl Reported<'_> {
     {
         match self {
             Reported::By(rules) => level_in(rules, kind),
+            Reported::Faults => None,
             Reported::Nothing => None,
+        }
+    }
+
+    /// Whether this is the same as another.
+    pub(crate) fn is_same(self, other: Reported<'_>) -> bool
+        ensures { result ≡ true → reported_view self.entry ≡ reported_view other.entry }
+    {
+        match self {
+            Reported::By(rules) => other.is_by(rules),
+            Reported::Faults => matches!(other, Reported::Faults),
+            Reported::Nothing => matches!(other, Reported::Nothing),
+        }
+    }
+
+    /// Whether it is what counts for anything, where these rules are set.
+    pub(crate) fn is_by(self, rules: &[RuleSetting]) -> bool
+        ensures { result ≡ true → ByRules (map rule_view rules.now) ≡ reported_view self.entry }
+    {
+        match self {
+            Reported::By(own) => rules == own,
+            Reported::Faults => false,
+            Reported::Nothing => false,
         }
     }
 }

@@ -1,7 +1,7 @@
 -- What is said of a fault.
 use Rattle.std.specs.Prelude.{◌≡◌, ℕ, List, ◌++◌, Bool, true, false, Option, None, Some, bytes_eq, codes, if◌then◌else◌, string_bytes}
 use Rattle.std.specs.Option.{option_map}
-use Rattle.tera_settings.specs.Meaning.{keys_of, known_names}
+use Rattle.tera_settings.specs.Meaning.{keys_of, known_names, top_names}
 use Rattle.tera_settings.specs.Near.{IsNearest}
 use Rattle.tera_settings.specs.Values.{is_among}
 use Rattle.tera_settings.specs.declared.fault.Fault.{Fault}
@@ -19,20 +19,25 @@ unknown_text what key (Some name) =
 abbrev pub IsUnknownText : List ℕ → List ℕ → List (List ℕ) → List ℕ → Type 0
 IsUnknownText what key names text = (near : Option (List ℕ)) × IsNearest key names near × (text ≡ unknown_text what key near)
 
--- a key at the top of the file that is one of its table `known`
+-- a key at the top of the file that is one of its table `known`, or a key in a table that is one of the top
 abbrev pub is_misplaced : Option (List ℕ) → List ℕ → Bool
 is_misplaced None key = is_among known_names key
-is_misplaced (Some table) key = false
+is_misplaced (Some table) key = is_among top_names key
 
-abbrev pub misplaced_text : List ℕ → List ℕ
-misplaced_text key = codes "unknown key `" ++ (key ++ codes "`: it is a key of the table `known`")
+-- .. and where it belongs
+abbrev pub where_of : Option (List ℕ) → List ℕ
+where_of None = codes "it is a key of the table `known`"
+where_of (Some table) = codes "it belongs at the top of the file, before the first table"
 
-abbrev pub IsKeyText : Bool → List (List ℕ) → List ℕ → List ℕ → Type 0
-IsKeyText true names key text = text ≡ misplaced_text key
-IsKeyText false names key text = IsUnknownText (codes "key") key names text
+abbrev pub misplaced_text : List ℕ → List ℕ → List ℕ → List ℕ
+misplaced_text what key place = codes "unknown " ++ (what ++ (codes " `" ++ (key ++ (codes "`: " ++ place))))
+
+abbrev pub IsKeyText : Bool → Option (List ℕ) → List ℕ → List ℕ → Type 0
+IsKeyText true table key text = text ≡ misplaced_text (codes "key") key (where_of table)
+IsKeyText false table key text = IsUnknownText (codes "key") key (keys_of table) text
 
 abbrev pub IsUnknownKeyText : Option (List ℕ) → List ℕ → List ℕ → Type 0
-IsUnknownKeyText table key text = IsKeyText (is_misplaced table key) (keys_of table) key text
+IsUnknownKeyText table key text = IsKeyText (is_misplaced table key) table key text
 
 -- a word for findings that are always errors, which is not the name of a rule that can be set
 abbrev pub fixed_text : List ℕ → Option (List ℕ)
@@ -41,9 +46,17 @@ fixed_text word =
     else if bytes_eq word (codes "unread")
     then Some (codes "`unread` cannot be set: a file that cannot be read is always an error") else None
 
+-- any other word: it may be a key of the top of the file
+abbrev pub IsOtherRuleText : Bool → List (List ℕ) → List ℕ → List ℕ → Type 0
+IsOtherRuleText true rules key text = text ≡ misplaced_text (codes "rule") key (where_of (Some (codes "rules")))
+IsOtherRuleText false rules key text = IsUnknownText (codes "rule") key rules text
+
+abbrev pub IsUnfixedRuleText : List (List ℕ) → List ℕ → List ℕ → Type 0
+IsUnfixedRuleText rules key text = IsOtherRuleText (is_misplaced (Some (codes "rules")) key) rules key text
+
 abbrev pub IsRuleText : Option (List ℕ) → List (List ℕ) → List ℕ → List ℕ → Type 0
 IsRuleText (Some fixed) rules key text = text ≡ fixed
-IsRuleText None rules key text = IsUnknownText (codes "rule") key rules text
+IsRuleText None rules key text = IsUnfixedRuleText rules key text
 
 abbrev pub IsUnknownRuleText : List (List ℕ) → List ℕ → List ℕ → Type 0
 IsUnknownRuleText rules key text = IsRuleText (fixed_text key) rules key text

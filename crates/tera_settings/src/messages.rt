@@ -2,7 +2,7 @@
 
 ghost use Rattle.std.specs.Prelude.{◌≡◌, IfOk, Some, string_bytes};
 ghost use Rattle.std.specs.Option.{option_map};
-ghost use Rattle.tera_settings.specs.Messages.{IsMessageOf, IsMessageOfMember, IsUnknownKeyText, IsUnknownRuleText, IsUnknownText, expected_text, fixed_text, is_misplaced, unknown_text};
+ghost use Rattle.tera_settings.specs.Messages.{IsMessageOf, IsMessageOfMember, IsUnknownKeyText, IsUnknownRuleText, IsUnfixedRuleText, IsUnknownText, expected_text, fixed_text, is_misplaced, misplaced_text, unknown_text, where_of};
 ghost use Rattle.tera_settings.specs.Values.{texts};
 
 use crate::fault::{Fault, Why, Wrong};
@@ -43,20 +43,36 @@ fn unknown_key(alloc: Global, table: Option<&str>, key: &str) -> Result<String, 
         (string_bytes text)) }
 {
     if is_misplaced(table, key) {
-        format!(in alloc; "unknown key `{key}`: it is a key of the table `known`")
+        misplaced(alloc, "key", key, where_of(table))
     } else {
         unknown(alloc, "key", key, keys_of(table))
     }
 }
 
-// Whether the key is at the top of the file, but is one of the table `known`.
+// Whether the key is at the top of the file, but is one of the table `known`, or is in a table, but is one of the top.
 fn is_misplaced(table: Option<&str>, key: &str) -> bool
     ensures { result ≡ is_misplaced (option_map (λ t. t.now) table.entry) key.now }
 {
     match table {
         None => is_among(keys_of(Some("known")), key),
-        Some(_) => false,
+        Some(_) => is_among(keys_of(None), key),
     }
+}
+
+// Where a key belongs that is misplaced in the table.
+fn where_of(table: Option<&str>) -> &'static str
+    ensures { result.now ≡ where_of (option_map (λ t. t.now) table.entry) }
+{
+    match table {
+        None => "it is a key of the table `known`",
+        Some(_) => "it belongs at the top of the file, before the first table",
+    }
+}
+
+fn misplaced(alloc: Global, what: &str, key: &str, place: &str) -> Result<String, AllocError>
+    ensures { IfOk result (λ text. string_bytes text ≡ misplaced_text what.now key.now place.now) }
+{
+    format!(in alloc; "unknown {what} `{key}`: {place}")
 }
 
 fn unknown_rule(alloc: Global, rules: &[&str], key: &str) -> Result<String, AllocError>
@@ -64,7 +80,18 @@ fn unknown_rule(alloc: Global, rules: &[&str], key: &str) -> Result<String, Allo
 {
     match fixed_text(key) {
         Some(text) => String::from_str(alloc, text),
-        None => unknown(alloc, "rule", key, rules),
+        None => unfixed_rule(alloc, rules, key),
+    }
+}
+
+fn unfixed_rule(alloc: Global, rules: &[&str], key: &str) -> Result<String, AllocError>
+    ensures { IfOk result (λ text. IsUnfixedRuleText (texts rules.now) key.now (string_bytes text)) }
+{
+    let table = Some("rules");
+    if is_misplaced(table, key) {
+        misplaced(alloc, "rule", key, where_of(table))
+    } else {
+        unknown(alloc, "rule", key, rules)
     }
 }
 

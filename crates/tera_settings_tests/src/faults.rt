@@ -29,6 +29,20 @@ fn a_key_that_no_setting_has(rt: HostRuntime) -> Result<(), Fail> {
 }
 
 #[test]
+fn a_key_of_the_top_in_a_table(rt: HostRuntime) -> Result<(), Fail> {
+    let alloc = rt.alloc();
+    let found = shown(alloc, "[known]\nfilters = []\nroot = \"a\"\n")?;
+    let expected =
+        "21: unknown key `root`: it belongs at the top of the file, before the first table";
+    assert_eq!(rt; found.as_str(), expected);
+    let found = shown(alloc, "[rules]\nexclude = []\n")?;
+    let expected =
+        "8: unknown rule `exclude`: it belongs at the top of the file, before the first table";
+    assert_eq!(rt; found.as_str(), expected);
+    Ok(())
+}
+
+#[test]
 fn a_key_after_what_is_no_key(rt: HostRuntime) -> Result<(), Fail> {
     let alloc = rt.alloc();
     let found = shown(alloc, "\u{feff}[rules]\nfault = \"off\"\n")?;

@@ -21,6 +21,7 @@ pub mod ReadSoFar
 pub mod ReadingLemmas
 pub mod SettleLemmas
 pub mod TouchedLemmas
+pub mod UnregisteredLemmas
 pub mod NeededLemmas
 pub mod NeedsLemmas
 pub mod WorkspaceLemmas

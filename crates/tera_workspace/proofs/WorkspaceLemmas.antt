@@ -8,20 +8,22 @@ use Rattle.std.proofs.lemmas.List.{map-append}
 use Rattle.text_edits.specs.Documents.{DocumentVal, text_of}
 use Rattle.text_edits.specs.Stored.{document_of, IsChangedAt, AreSame}
 use Rattle.text_edits.specs.declared.documents.Documents.{Documents}
-use Rattle.tera_workspace.specs.Components.{files_by}
-use Rattle.tera_workspace.specs.Definitions.{AreRead}
+use Rattle.tera_workspace.specs.Components.{components_by, files_by, parameters_by}
+use Rattle.tera_workspace.specs.Definitions.{AreRead, definition_by}
 use Rattle.tera_workspace.specs.Fresh.{AreFresh}
+use Rattle.tera_workspace.specs.Judgements.{IsJudgementIfAny}
 use Rattle.tera_workspace.specs.Kept.{name_of, sources_of, templates_of, reported_of, reported_named, AllWhole, AreCurrent, StayKept}
 use Rattle.tera_workspace.specs.Names.{is_among}
 use Rattle.tera_workspace.specs.Sources.{Source, AreAscending, text_named}
 use Rattle.tera_workspace.specs.Reported.{AreNews, reported_each}
+use Rattle.tera_workspace.specs.Unregistered.{unknown_by}
 use Rattle.tera_workspace.specs.Workspaces.{IsKept, IsSettled}
 use Rattle.tera_workspace.specs.declared.judged.Judged.{Judged}
 use Rattle.tera_workspace.specs.declared.workspace.Workspace.{Workspace}
 use Rattle.tera_workspace.proofs.NameSets.{among_append}
 use Rattle.tera_workspace.specs.Diagnostics.{DiagnosticVal}
 use Rattle.tera_workspace.proofs.PlaceLemmas.{first_false, second_false, false_true}
-use Rattle.tera_workspace.proofs.SettleLemmas.{News, reported_sources, reported_whole, still_ordered, all_reported, now_current, all_read, all_fresh}
+use Rattle.tera_workspace.proofs.SettleLemmas.{News, reported_sources, reported_templates, reported_whole, still_ordered, all_reported, now_current, all_read, all_fresh}
 
 -- those that are not among the names that changed are what they were
 kept_by : (w : Workspace) (ds : Documents) (changed : Vec (String Global) Global) {ordered : AreAscending (sources_of w.judged.items)} → IsKept w
@@ -116,6 +118,7 @@ are_read w k none = record {
   parameters = λ n. refl;
   there = ap (files_by w.documents) (names_are w.judged.items);
   judgements = λ n j is. is;
+  unknown = λ r n. refl;
 }
 
 -- whether a file is there, by the text that is found
@@ -183,3 +186,34 @@ module _ (w : Workspace) (now : Vec Judged Global) (news : List News) (k : IsKep
 
   pub read_kept : IsKept settled
   read_kept = kept_settled settled w.judged.items news is k.whole k.ordered k.current (are k.whole) texts
+
+  same_sources : sources_of now.items ≡ sources_of w.judged.items
+  same_sources = ap sources_of is ∙ reported_sources w.judged.items news
+
+  same_templates : templates_of now.items ≡ templates_of w.judged.items
+  same_templates = ap templates_of is ∙ reported_templates w.judged.items news
+
+  -- what is given by the documents is what was
+  pub read_still : AreRead settled
+  read_still = record {
+    sources = read.sources;
+    are = read.are;
+    templates = read.templates;
+    read = read.read;
+    definitions = λ n.
+        ap (λ ss. definition_by w.encoding ss (templates_of now.items) n) same_sources
+        ∙ ap (λ ts. definition_by w.encoding (sources_of w.judged.items) ts n) same_templates
+        ∙ read.definitions n;
+    texts = same_sources ∙ read.texts;
+    components = ap components_by same_templates ∙ read.components;
+    parameters = λ n. ap (λ ts. parameters_by ts n) same_templates ∙ read.parameters n;
+    there =
+        ap (files_by w.documents) (names_are now.items ∙ ap (map (λ (s : Source). s.name)) same_sources ∙ sym (names_are w.judged.items)) ∙ read.there;
+    judgements = λ n j is. read.judgements n j
+        (subst (λ ss. IsJudgementIfAny ss (templates_of w.judged.items) n j) same_sources
+        (subst (λ ts. IsJudgementIfAny (sources_of now.items) ts n j) same_templates is));
+    unknown = λ r n.
+        ap (λ ss. unknown_by w.encoding ss (templates_of now.items) r n) same_sources
+        ∙ ap (λ ts. unknown_by w.encoding (sources_of w.judged.items) ts r n) same_templates
+        ∙ read.unknown r n;
+  }

@@ -1,4 +1,4 @@
--- Where components are defined, and which texts the documents have, as they are.
+-- Where components are defined, which texts the documents have, and what is found by these, as they are.
 use Rattle.std.specs.Prelude.{◌≡◌, ℕ, List, map, string_bytes, slice_get, Option, Some}
 use Rattle.std.specs.List.{Contains}
 use Rattle.std.specs.Option.{option_map}
@@ -7,6 +7,7 @@ use Rattle.text_edits.specs.declared.positions.Position.{Position}
 use Rattle.tera_tree.specs.Tree.{Argument, Definition as TreeDefinition}
 use Rattle.tera_check.specs.Judged.{KnownVal}
 use Rattle.tera_check.specs.Named.{definitions_of, first_named, defined_by, span_at}
+use Rattle.tera_check.specs.Registered.{RegisteredVal}
 use Rattle.tera_check.specs.declared.templates.Template.{Template}
 use Rattle.tera_workspace.specs.Components.{names_defined, components_by, parameters_by, files_by, components_of, parameters_of_name, files_of}
 use Rattle.tera_workspace.specs.Diagnostics.{position_in}
@@ -14,6 +15,7 @@ use Rattle.tera_workspace.specs.Fresh.{AreTemplates}
 use Rattle.tera_workspace.specs.Judgements.{IsJudgementIfAny, IsJudgementOf}
 use Rattle.tera_workspace.specs.Kept.{sources_of, templates_of}
 use Rattle.tera_workspace.specs.Sources.{Source, AreSources, text_named}
+use Rattle.tera_workspace.specs.Unregistered.{unknown_by, unknown_of_name}
 use Rattle.tera_workspace.specs.declared.judgements.Judgement.{Judgement}
 use Rattle.tera_workspace.specs.declared.queries.Definition.{Definition}
 use Rattle.tera_workspace.specs.declared.queries.FileText.{FileText}
@@ -63,6 +65,7 @@ pub record AreRead (w : Workspace) : Type 0 where
   pub parameters : (n : List ℕ) → parameters_of_name w n ≡ parameters_by templates n
   pub there : files_of w ≡ files_by w.documents (map (λ s. s.name) sources)
   pub judgements : (n : List ℕ) (j : Option Judgement) → IsJudgementOf w n j → IsJudgementIfAny sources templates n j
+  pub unknown : (r : RegisteredVal) (n : List ℕ) → unknown_of_name w r n ≡ unknown_by w.encoding sources templates r n
 
 -- ---- what is so of them
 

@@ -9,4 +9,5 @@ pub mod Kept
 pub mod Names
 pub mod Sources
 pub mod Reported
+pub mod Unregistered
 pub mod Workspaces

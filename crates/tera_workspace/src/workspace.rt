@@ -158,6 +158,7 @@ impl Workspace {
         ensures encoding { self.new.encoding ≡ self.old.encoding }
         ensures documents { AreSame self.old.documents self.new.documents }
         ensures settled { IsKept self.old → OnOk result (IsSettled self.new) }
+        ensures read { IsKept self.old → OnOk result (AreRead self.new) }
         ensures names { IsKept self.old → IfOk result (λ v.
             AreOthers (map string_bytes v.items) (reported_of_name self.old) (reported_of_name self.new)) }
         ensures kept { IsKept self.old → IsKept self.new }

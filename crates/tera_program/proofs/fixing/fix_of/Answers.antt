@@ -6,12 +6,12 @@ use Rattle.tera_program.specs.Sources.{marks_in}
 use Rattle.tera_program.proofs.FixingLemmas.{fix_of_found}
 use Rattle.tera_program.proofs.fixing.fix_of.Goals as goal
 
-pub returns-then-is_some : goal.returns-then-is_some
-returns-then-is_some c =
+pub returns-then-is_some-clause-fix : goal.returns-then-is_some-clause-fix
+returns-then-is_some-clause-fix c =
     let known = c.args.known in
     let same : bytes_eq (string_bytes c.args.template.now.file) (string_bytes c.args.source.now.file) ≡ true = search rules in
     let (faults, of_template, all) = c.in_ok-found.ensures.found in
     let are : IsAllOf (known_in known.catalogue.now) known.is_open c.args.number c.args.template.now c.in_ok-found.found.items = record { faults = faults; are = of_template; found = all } in
     fix_of_found known.catalogue.now known.is_open (marks_in c.args.reading.now.markers) c.args.reading.now.faults c.args.rules c.args.number c.args.template.now c.args.source.now
     _ _ c.in_ok-found.found.items c.in_ok-fix.fix same are
-    (ap (λ (fs : List (Bor Finding)). map (λ (f : Bor Finding). f.now) fs) c.as_slice.ensures.value ∙ c.in_ok-reported.ensures) c.in_ok-fix.ensures
+    (ap (λ (fs : List (Bor Finding)). map (λ (f : Bor Finding). f.now) fs) c.as_slice.ensures.value ∙ c.in_ok-reported.ensures) c.in_ok-fix.ensures.fix

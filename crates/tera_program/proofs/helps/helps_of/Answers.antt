@@ -1,9 +1,11 @@
-use Rattle.std.proofs.Common.{◌≡◌, ◌∙◌, ℕ, List, Some, Bor, length, option_map, slice_get, sym, ap, subst, arith}
+use Rattle.std.proofs.Common.{rules, ◌≡◌, ◌∙◌, ℕ, List, Some, Bor, length, option_map, slice_get, sym, ap, subst, arith}
 use Rattle.std.proofs.lemmas.List.{length_push}
 use Rattle.std.proofs.lemmas.Option.{get_or_from_slice_get}
 use Rattle.tera_check.specs.declared.found.Found.{Found}
 use Rattle.tera_check.specs.declared.templates.Template.{Template}
 use Rattle.tera_files.specs.declared.reading.Source.{Source}
+use Rattle.tera_fixes.specs.Names.{component_names}
+use Rattle.tera_fixes.proofs.ComponentsLemmas.{no_meanings}
 use Rattle.tera_program.specs.Helps.{Help, IsHelpOf}
 use Rattle.tera_program.proofs.Lists.{each_pushed, item_got, none_held}
 use Rattle.tera_program.proofs.helps.helps_of.Goals as goal
@@ -14,6 +16,7 @@ loop-number-init c = record {
   are = none_held (λ i help. (found : Found) → slice_get c.args.all.now i ≡ Some found
       → IsHelpOf c.in_ok-catalogue.catalogue (slice_get c.args.templates.now.items i) (slice_get c.args.sources.now i) found help)
       c.new-helps.result.items c.new-helps.ensures.items;
+  meant = no_meanings (component_names c.in_ok-catalogue.catalogue) c.new-meanings.result c.new-meanings.ensures.empty;
 }
 
 pub loop-number-preserved : goal.loop-number-preserved
@@ -33,7 +36,7 @@ loop-number-preserved c =
     item_got sources number c.get-in-loop-number.result c.get-in-loop-number.ensures.lookup in
     let here : IsHelpOf catalogue (slice_get templates number) (slice_get sources number) one help =
     subst (λ t. IsHelpOf catalogue t (slice_get sources number) one help) template
-    (subst (λ s. IsHelpOf catalogue (option_map (λ (t : Bor Template). t.now) c.get.result) s one help) source c.in_ok-help.ensures) in
+    (subst (λ s. IsHelpOf catalogue (option_map (λ (t : Bor Template). t.now) c.get.result) s one help) source c.in_ok-help.ensures.help) in
     record {
       each = omega (arith, ap length c.in_ok-push.ensures.items, length_push helps help, held.each);
       are =
@@ -43,6 +46,7 @@ loop-number-preserved c =
           (subst (λ (k : ℕ). (found : Found) → slice_get all k ≡ Some found → IsHelpOf catalogue (slice_get templates k) (slice_get sources k) found help) (sym held.each)
           (λ found is. subst (λ (f : Found). IsHelpOf catalogue (slice_get templates number) (slice_get sources number) f help)
           (c.index-all-number.is ∙ get_or_from_slice_get all number found one is) here)));
+      meant = search rules;
     }
 
 pub returns : goal.returns

@@ -21,6 +21,8 @@ returns-in_ok-end_message-in-Open-clause-published c =
       c.in_ok-put_published-in-Open.ensures.tokens,
       c.in_ok-message-in-Open.ensures.tokens,
       c.reported.ensures,
+      c.as_slice.ensures.value,
+      c.in_ok-unknown-in-Open.ensures,
     )
     (simp append_assoc refl) in
     and_so c.push.result c.push.ensures.ok

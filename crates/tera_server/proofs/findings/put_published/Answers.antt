@@ -1,7 +1,7 @@
 use Rattle.std.proofs.Common.{◌≡◌, ◌∙◌, ◌++◌, map, string_bytes, refl, sym, ap, append_assoc}
+use Rattle.std.proofs.lemmas.List.Concat.{flat_map-append}
 use Rattle.std.specs.List.{flat_map}
 use Rattle.tera_workspace.specs.Diagnostics.{diagnostic_view}
-use Rattle.tera_workspace.proofs.LeftLemmas.{left_last}
 use Rattle.tera_server.specs.Findings.{found_if_on, one_found}
 use Rattle.tera_server.specs.Settings.{reported_for, reported_view, shown_in}
 use Rattle.tera_server.specs.UnreadFiles.{why_of}
@@ -16,15 +16,21 @@ returns c =
     let name = c.args.name.now in
     let why = why_of c.args.publishing.unread.now name in
     let shown = reported_for c.args.publishing.settings.now (map string_bytes c.args.publishing.folders.now) name in
-    let all = map diagnostic_view c.args.found.now in
-    let ds = shown_in shown all in
+    let found = map diagnostic_view c.args.found.now in
+    let unknown = map diagnostic_view c.args.unknown.now in
+    let ds = shown_in shown (found ++ unknown) in
     let old = c.args.out.now.tokens in
-    let given : c.loop-diagnostic.out.tokens ≡ c.put_reason.new.out.tokens ++ flat_map (found_if_on e reported (reported_view c.reported-reported.result)) all =
-    left_last (λ ds. flat_map (found_if_on e reported (reported_view c.reported-reported.result)) (map diagnostic_view ds)) _ c.loop-diagnostic.out.tokens c.args.found.now c.loop-diagnostic.diagnostic-index c.loop-diagnostic-test.false refl c.loop-diagnostic.invariant.tokens in
-    let each : c.loop-diagnostic.out.tokens ≡ c.put_reason.new.out.tokens ++ flat_map (one_found e reported) ds =
-    given
-    ∙ ap (λ rules. c.put_reason.new.out.tokens ++ flat_map (found_if_on e reported rules) all) c.reported-reported.ensures
-    ∙ ap (λ ts. c.put_reason.new.out.tokens ++ ts) (on_written e reported shown all) in
+    let start = c.put_reason.new.out.tokens in
+    let one = found_if_on e reported (reported_view c.reported-reported.result) in
+    let both : c.put_found-2.new.out.tokens ≡ start ++ flat_map one (found ++ unknown) =
+    c.in_ok-put_found-2.ensures.tokens
+    ∙ ap (λ ts. ts ++ flat_map one unknown) c.in_ok-put_found.ensures.tokens
+    ∙ append_assoc start (flat_map one found) (flat_map one unknown)
+    ∙ ap (λ ts. start ++ ts) (sym (flat_map-append one found unknown)) in
+    let each : c.put_found-2.new.out.tokens ≡ start ++ flat_map (one_found e reported) ds =
+    both
+    ∙ ap (λ rules. start ++ flat_map (found_if_on e reported rules) (found ++ unknown)) c.reported-reported.ensures
+    ∙ ap (λ ts. start ++ ts) (on_written e reported shown (found ++ unknown)) in
     record {
       tokens =
           and_so c.put_tokens-3.result c.put_tokens-3.ensures.tokens
@@ -33,5 +39,5 @@ returns c =
           rw (h, each, c.in_ok-put_reason.ensures.tokens, c.of.ensures, c.in_ok-put_tokens-2.ensures.tokens, c.in_ok-put_version.ensures.tokens, c.in_ok-put_tokens.ensures.tokens, c.as_str.ensures.value, c.in_ok-uri.ensures)
           (simp append_assoc refl) in
           written ∙ ap (λ ts. old ++ ts) (sym (found_written e reported name why ds)));
-      before = c.put_tokens-3.ensures.before ∙ c.loop-diagnostic.invariant.before ∙ c.in_ok-put_reason.ensures.before ∙ c.in_ok-put_tokens-2.ensures.before ∙ c.in_ok-put_version.ensures.before ∙ c.in_ok-put_tokens.ensures.before;
+      before = c.put_tokens-3.ensures.before ∙ c.in_ok-put_found-2.ensures.before ∙ c.in_ok-put_found.ensures.before ∙ c.in_ok-put_reason.ensures.before ∙ c.in_ok-put_tokens-2.ensures.before ∙ c.in_ok-put_version.ensures.before ∙ c.in_ok-put_tokens.ensures.before;
     }

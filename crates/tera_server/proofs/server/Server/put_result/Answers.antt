@@ -14,6 +14,15 @@ returns-in_ok-null-in-Shutdown-clause-result c = (
   c.in_ok-null-in-Shutdown.ensures.ok,
 )
 
+pub returns-in-OfText-clause-result : goal.returns-in-OfText-clause-result
+returns-in-OfText-clause-result c =
+    let s = c.args.self.now in
+    let params = seen c.args.params in
+    subst (λ a. IsPut a s params c.args.out.now.tokens c.put_result_of_document.result s c.put_result_of_document.new.out.tokens) (sym c.in-OfText.is)
+    (MatchResult-weaker c.put_result_of_document.result c.put_result_of_document.ensures.result
+    (λ x given. let (j, are, written) = given in (j, (are, refl), written))
+    (λ code why. (refl, why)))
+
 pub returns-in_ok-read-in-Actions-clause-result : goal.returns-in_ok-read-in-Actions-clause-result
 returns-in_ok-read-in-Actions-clause-result c =
     let s = c.args.self.now in

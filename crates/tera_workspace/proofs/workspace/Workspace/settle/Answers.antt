@@ -5,7 +5,7 @@ use Rattle.tera_workspace.specs.Workspaces.{AreOthers}
 use Rattle.tera_workspace.specs.declared.judged.Judged.{Judged}
 use Rattle.tera_workspace.proofs.NewsLemmas.{others_are}
 use Rattle.tera_workspace.proofs.SettleLemmas.{still_ordered}
-use Rattle.tera_workspace.proofs.WorkspaceLemmas.{read_settled, read_kept}
+use Rattle.tera_workspace.proofs.WorkspaceLemmas.{read_settled, read_kept, read_still}
 use Rattle.tera_workspace.proofs.workspace.Workspace.settle.Goals as goal
 
 pub invariant_of-self : goal.invariant_of-self
@@ -16,6 +16,10 @@ invariant_of-self c = record {
 pub returns-clause-settled : goal.returns-clause-settled
 returns-clause-settled c = λ kept.
     read_settled c.read.new.self c.report.new.all c.in_ok-news.news.items (c.read.ensures.kept kept) (c.in_ok-read.ensures.read kept) c.in_ok-news.ensures.news c.report.ensures _
+
+pub returns-clause-read : goal.returns-clause-read
+returns-clause-read c = λ kept.
+    read_still c.read.new.self c.report.new.all c.in_ok-news.news.items (c.read.ensures.kept kept) (c.in_ok-read.ensures.read kept) c.in_ok-news.ensures.news c.report.ensures _
 
 pub returns-clause-kept : goal.returns-clause-kept
 returns-clause-kept c = λ kept.

@@ -1,9 +1,0 @@
-use Rattle.std.proofs.Common.{◌≡◌, ◌++◌, drop, filter, map, string_bytes}
-use Rattle.tera_workspace.specs.Definitions.{text_view}
-use Rattle.tera_server.specs.Configuring.{is_reported_inside}
-use Rattle.tera_server.proofs.configuring.reported_inside.Given as goal
-
-abbrev pub invariant-loop-text : goal.invariant-loop-text
-invariant-loop-text l =
-    map string_bytes l.names.items ++ filter (is_reported_inside l.workspace l.folder) (map (λ s. s.name) (map text_view (drop l.text-index l.text-items)))
-    ≡ filter (is_reported_inside l.workspace l.folder) (map (λ s. s.name) (map text_view l.text-items))
