@@ -1,13 +1,16 @@
-"""What `tera` does with inputs that double: one long line, many faults, and many documents opened without a folder.
+"""What `tera` does with inputs that double: one long line, many faults, many documents, many paths in the settings.
 
-`doublings(program)` counts, under valgrind's callgrind, the instructions of each job of JOBS at its sizes, and gives
+`doublings(program, [])` counts, under valgrind's callgrind, the instructions of each job of JOBS at its sizes, and gives
 the jobs of which a doubling of the input takes more than MOST times the instructions. A job goes no further than that.
 """
 import json
+import os
 import pathlib
 import re
 import subprocess
 import tempfile
+import time
+from concurrent.futures import ThreadPoolExecutor
 
 MOST = 2.6
 SIZES = [1000 * 2 ** n for n in range(7)]
@@ -80,6 +83,23 @@ def tag_starts(n):
     return "{%" * n
 
 
+def arguments(n):
+    """A component that takes any argument, and a call with so many, in one line."""
+    passed = " ".join(f'b{at}="x"' for at in range(n))
+    return f'{{% component ui.box(a, ...rest) %}}{{{{ a }}}}{{{{ rest }}}}{{% endcomponent %}}{{{{ <ui.box {passed} a="x"/> }}}}'
+
+
+def parameters(n):
+    """A component with so many parameters, and a call with the last of them, in one line."""
+    head = ", ".join(f'_p{at} = "x"' for at in range(n))
+    return f'{{% component ui.box({head}) %}}x{{% endcomponent %}}{{{{ <ui.box _p{n - 1}="x"/> }}}}'
+
+
+def unknown_filters(n):
+    """Filters that the program does not have, each of another name, in one line."""
+    return "".join(f"{{{{ a | f{at} }}}}" for at in range(n))
+
+
 def frame(message):
     body = json.dumps({"jsonrpc": "2.0"} | message).encode()
     return b"Content-Length: %d\r\n\r\n" % len(body) + body
@@ -94,7 +114,25 @@ def asking(method, **params):
     return {"id": 1, "method": "textDocument/" + method, "params": {"textDocument": {"uri": URI}} | params}
 
 
+def asking_in_the_last_value(method):
+    """Of a text that ends in a call without a body: the request in the value of its last argument."""
+    return lambda text: asking(method, position={"line": 0, "character": text.rindex('"')})
+
+
+def adding(folder):
+    event = {"added": [{"uri": folder.as_uri(), "name": "f"}], "removed": []}
+    return {"method": "workspace/didChangeWorkspaceFolders", "params": {"event": event}}
+
+
+def changing(file):
+    changes = [{"uri": file.as_uri(), "type": 2}]
+    return {"method": "workspace/didChangeWatchedFiles", "params": {"changes": changes}}
+
+
 def is_answer(message):
+    """Whether it has the result that was asked for, which has to have something in it."""
+    if message.get("id") == 1 and not message.get("result"):
+        raise SystemExit(f"no result: {str(message)[:200]}")
     return message.get("id") == 1
 
 
@@ -102,8 +140,21 @@ def publishes(uri):
     return lambda message: message.get("method", "").endswith("publishDiagnostics") and message["params"]["uri"] == uri
 
 
-def talk(process, steps):
-    """Sends each message to a server, and waits until one comes of which the test beside it holds."""
+def finds_in(uri):
+    """The same, where something has to be found."""
+
+    def is_it(message):
+        if publishes(uri)(message) and not message["params"]["diagnostics"]:
+            raise SystemExit(f"nothing is found: {str(message)[:200]}")
+        return publishes(uri)(message)
+
+    return is_it
+
+
+def talk(process, steps, clock=time.perf_counter):
+    """Sends each message to a server, and waits until one comes of which the test beside it holds: how much passes of the
+    clock from each message of the steps until then.
+    """
 
     def read():
         length = 0
@@ -116,14 +167,21 @@ def talk(process, steps):
     start = [({"id": 0, "method": "initialize", "params": {"capabilities": utf_8}}, lambda it: it.get("id") == 0),
              ({"method": "initialized", "params": {}}, None)]
     end = [({"id": 2, "method": "shutdown"}, lambda it: it.get("id") == 2), ({"method": "exit"}, None)]
+    taken = []
     for message, is_awaited in start + steps + end:
-        process.stdin.write(frame(message))
+        framed, began = frame(message), clock()
+        process.stdin.write(framed)
         process.stdin.flush()
-        while is_awaited and not is_awaited(found := read()):
+        is_here = not is_awaited
+        while not is_here:
+            found = read()
             if found is None:
-                return
+                raise SystemExit(f"the server ended after {framed[:200]}")
+            is_here = is_awaited(found)
+        taken.append(clock() - began)
     process.stdin.close()
     process.stdout.read()
+    return taken[len(start):len(start) + len(steps)]
 
 
 def instructions(program, words, steps=None):
@@ -142,26 +200,70 @@ def instructions(program, words, steps=None):
     return int(found.group(1))
 
 
-def of_file(*words, text):
-    """A job of `tera` over a file."""
+def of_file(*words, text, settings=None):
+    """A job of `tera` over a file, by these settings, if there are any."""
 
     def run(program, n):
         with tempfile.TemporaryDirectory() as made:
             file = pathlib.Path(made) / "page.html"
             file.write_text(text(n))
+            if settings:
+                (file.parent / "tera.toml").write_text(settings)
             return instructions(program, [*words, file])
 
     return run
 
 
 def of_server(text, *after):
-    """A job of `tera server`: one document is opened, and something is asked."""
+    """A job of `tera server`: one document is opened, and something is asked, which may depend on its text."""
 
     def run(program, n):
-        steps = [(opening(URI, text(n)), publishes(URI)), *((message, is_answer) for message in after)]
+        source = text(n)
+        asked = (message(source) if callable(message) else message for message in after)
+        steps = [(opening(URI, source), publishes(URI)), *((message, is_answer) for message in asked)]
         return instructions(program, ["server"], steps)
 
     return run
+
+
+def of_server_by(settings, text):
+    """A job of `tera server`: a folder with these settings is opened, and then a document in it."""
+
+    def run(program, n):
+        with tempfile.TemporaryDirectory() as made:
+            folder = pathlib.Path(made).resolve()
+            (folder / "tera.toml").write_text(settings)
+            uri = (folder / "page.html").as_uri()
+            return instructions(program, ["server"], [(adding(folder), None), (opening(uri, text(n)), finds_in(uri))])
+
+    return run
+
+
+def write_left_out(folder, n):
+    """Writes so many files that the settings leave out, one by one, and as many that they do not."""
+    for at in range(n):
+        (folder / f"out{at}.html").write_text("{{ a }}\n")
+        (folder / f"in{at}.html").write_text("{{ a }}\n")
+    (folder / "tera.toml").write_text(f"exclude = {json.dumps([f'out{at}.html' for at in range(n)])}\n")
+
+
+def of_left_out(program, n):
+    """`tera check` over that folder."""
+    with tempfile.TemporaryDirectory() as made:
+        folder = pathlib.Path(made).resolve()
+        write_left_out(folder, n)
+        return instructions(program, ["check", "--output-format=concise", folder])
+
+
+def of_server_left_out(program, n):
+    """The folder is opened, and its settings change."""
+    with tempfile.TemporaryDirectory() as made:
+        folder = pathlib.Path(made).resolve()
+        write_left_out(folder, n)
+        other = URI + ".other"
+        steps = [(adding(folder), None), (opening(URI, "a"), publishes(URI)), (changing(folder / "tera.toml"), None),
+                 (opening(other, "a"), publishes(other))]
+        return instructions(program, ["server"], steps)
 
 
 def of_documents(program, n):
@@ -174,6 +276,7 @@ def of_documents(program, n):
 OPTIONS = {"tabSize": 2, "insertSpaces": True}
 START = {"line": 0, "character": 15}
 DECLARED = {"includeDeclaration": True}
+KNOWN = '[known]\nfilters = ["upper", "lower", "title", "safe", "date"]\n'
 JOBS = {
     "check, full": (of_file("check", "--color=never", text=findings), SIZES),
     "check, concise": (of_file("check", "--output-format=concise", text=findings), SIZES),
@@ -184,6 +287,8 @@ JOBS = {
     "check, open tags": (of_file("check", "--output-format=concise", text=open_tags), FAULTS),
     "check, open heads": (of_file("check", "--output-format=concise", text=open_heads), FAULTS),
     "check, stray ends": (of_file("check", "--output-format=concise", text=stray_ends), FAULTS),
+    "check, unknown filters": (of_file("check", "--output-format=concise", text=unknown_filters, settings=KNOWN), SIZES),
+    "check, left out": (of_left_out, FAULTS),
     "tree, broken tags": (of_file("tree", "--faulty", "--json", text=broken_tags), FAULTS),
     "tree, open strings": (of_file("tree", "--faulty", "--json", text=open_strings), FAULTS),
     "tree, open comments": (of_file("tree", "--faulty", "--json", text=open_comments), FAULTS),
@@ -198,20 +303,33 @@ JOBS = {
     "server, outline": (of_server(blocks, asking("documentSymbol")), SIZES),
     "server, references": (of_server(references, asking("references", position=START, context=DECLARED)), SIZES),
     "server, coloured tokens": (of_server(references, asking("semanticTokens/full")), SIZES),
+    "server, signature of arguments": (of_server(arguments, asking_in_the_last_value("signatureHelp")), SIZES),
+    "server, signature of parameters": (of_server(parameters, asking_in_the_last_value("signatureHelp")), SIZES),
+    "server, unknown filters": (of_server_by(KNOWN, unknown_filters), SIZES),
+    "server, left out": (of_server_left_out, FAULTS),
     "server, documents": (of_documents, DOCUMENTS),
 }
 
 
+def is_dearer(program, job):
+    """Whether a doubling of the job takes more than it may. What each size takes is printed."""
+    run, sizes = JOBS[job]
+    before = None
+    for n in sizes:
+        now = run(program, n)
+        ratio = f", {now / before:.2f} times" if before else ""
+        print(f"{job}, {n}: {now}{ratio}\n", end="", flush=True)
+        if before and now > before * MOST:
+            return True
+        before = now
+    return False
+
+
 def doublings(program, wanted):
-    """The jobs, of those that are wanted or of all, of which a doubling takes more than it may."""
-    for job in wanted or JOBS:
-        run, sizes = JOBS[job]
-        before = None
-        for n in sizes:
-            now = run(program, n)
-            ratio = f", {now / before:.2f} times" if before else ""
-            print(f"{job}, {n}: {now}{ratio}", flush=True)
-            if before and now > before * MOST:
-                yield job
-                break
-            before = now
+    """The jobs, of those that are wanted or of all, of which a doubling takes more than it may. As many jobs are counted
+    at once as there are processors.
+    """
+    jobs = wanted or list(JOBS)
+    with ThreadPoolExecutor(os.cpu_count()) as pool:
+        found = pool.map(lambda job: is_dearer(program, job), jobs)
+        return [job for job, dearer in zip(jobs, found) if dearer]
