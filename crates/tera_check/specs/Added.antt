@@ -6,19 +6,19 @@ use Rattle.tera_check.specs.OrderAndStatus.{IsInOrder}
 use Rattle.tera_check.specs.declared.found.Found.{Found}
 use Rattle.tera_check.specs.declared.templates.Template.{Template}
 
--- in a template there is found what was, and more, in the order of the places
+-- what is found in a template is what was found before, and more, in the order of the places
 pub record IsWith (more : List FindingVal) (old new : Found) : Type 0 where
   pub file : new.file ≡ old.file
   pub in_order : IsInOrder new.findings.items
   pub found : IsPermutation (map finding_view old.findings.items ++ more) (map finding_view new.findings.items)
 
--- so it is in the template of a number, and what is found in all others stays
+-- this holds of the template of a number, and what is found in all others stays
 pub record IsAddedAt (due : Template → List FindingVal) (ts : List Template) (number : ℕ) (old new : List Found) : Type 0 where
   pub each : length new ≡ length old
   pub here : (t : Template) (f g : Found) → slice_get ts number ≡ Some t → slice_get old number ≡ Some f → slice_get new number ≡ Some g → IsWith (due t) f g
   pub others : (n : ℕ) → n ≢ number → slice_get new n ≡ slice_get old n
 
--- so it is in each of the first templates, and what is found in the others stays
+-- this holds of each of the first templates, and what is found in the others stays
 pub record AreAdded (due : Template → List FindingVal) (ts : List Template) (checked : ℕ) (old new : List Found) : Type 0 where
   pub each : length new ≡ length old
   pub added : (n : ℕ) (t : Template) (f g : Found) → n < checked

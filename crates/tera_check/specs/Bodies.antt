@@ -15,7 +15,7 @@ use Rattle.tera_check.specs.Parameters.{all_variables}
 use Rattle.tera_check.specs.Within.{all_parts}
 use Rattle.tera_check.specs.declared.templates.Template.{Template}
 
--- a body of white space alone
+-- a body that is only white space
 abbrev pub is_blank_node : Stmt → Bool
 is_blank_node (Content text) = is_blank text
 is_blank_node _ = false
@@ -39,12 +39,12 @@ shows_body d = list_any may_show (all_parts (parts_of_nodes (nodes_of d.body)))
 abbrev pub is_hidden_in : List Definition → List ℕ → Bool
 is_hidden_in ds name = list_any (λ d. bytes_eq d.name name && not (shows_body d)) ds
 
--- .. of the tree of a template without faults; of one with a fault what was lost may show a body
+-- .. in the tree of a template without faults; in one with a fault, what was lost may show a body
 abbrev pub is_hidden_by : Result ParserOutput Error → List ℕ → Bool
 is_hidden_by (Ok output) name = is_hidden_in (output_view output).definitions name
 is_hidden_by (Err error) name = false
 
--- the template has the names of those of its components that show no body
+-- the template has the names of its components that show no body
 abbrev pub HasHidden : Template → Type 0
 HasHidden t = (name : List ℕ) → contains_text t.bodies_hidden name ≡ is_hidden_by t.parsed name
 

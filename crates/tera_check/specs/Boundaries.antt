@@ -4,14 +4,14 @@ use Rattle.std.specs.Str.{bytes_eq}
 use Rattle.tera_lexer.specs.grammar.Place.{begins_character}
 use Rattle.tera_check.specs.Lost.{part_at}
 
--- these bytes are there, and what a text has between them
+-- the text has all bytes between these two, and what it has between them
 abbrev pub has_bytes : ℕ × ℕ → List ℕ → Bool
 has_bytes (start, end) text = nat_le start end && nat_le end (length text)
 
 abbrev pub bytes_between : ℕ × ℕ → List ℕ → List ℕ
 bytes_between (start, end) text = part_at start (end - start) text
 
--- two texts have the same there
+-- two texts have the same bytes there
 abbrev pub is_same_part : List ℕ → List ℕ → ℕ × ℕ → Bool
 is_same_part one other mark =
     has_bytes mark one && (has_bytes mark other && bytes_eq (bytes_between mark one) (bytes_between mark other))

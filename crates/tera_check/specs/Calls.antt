@@ -1,5 +1,5 @@
--- The calls of components that are in a tree, from left to right, each after those that are in it. Of arguments by name
--- the order is that of the names.
+-- The calls of components in a tree, from left to right, each after the calls inside it. Arguments by name are in the
+-- order of their names.
 use Rattle.std.specs.Prelude.{List, [], ◌∷◌, ◌++◌}
 use Rattle.std.specs.List.{flat_map}
 use Rattle.tera_ast.specs.View.{nodes_of}

@@ -1,4 +1,4 @@
--- Which findings of a tree are due, where some of its text was written for faults.
+-- Which findings of a tree are due, if a part of its text was written for faults.
 use Rattle.std.specs.Prelude.{ℕ, ◌+◌, ◌-◌, ◌^◌, min, nat_le, nat_lt, unwrap_or, List, [], ◌++◌, Bool, true, false, not, ◌&&◌, ◌||◌, codes, length, string_bytes, Option, None, Some}
 use Rattle.std.specs.BTreeSet.{keys}
 use Rattle.std.specs.List.{filter, find, list_any}
@@ -16,7 +16,8 @@ use Rattle.tera_check.specs.declared.finding.Kind.TheVariants as kinds
 use Rattle.tera_check.specs.declared.mended.Mended.{Mended}
 use Rattle.tera_check.specs.declared.templates.Template.{Template}
 
--- the first byte that a finding is about, and the one after it: of a call its `<`, as its body may have faults
+-- the first byte that a finding is about, and the byte after the last; for a call only its `<`, as its body may have
+-- faults
 abbrev pub mark_by : Kind → Span → ℕ × ℕ
 mark_by kinds.UndefinedComponent span = (span.range.start, min (span.range.start + 1) (2 ^ 64 - 1))
 mark_by kinds.MissingArgument span = (span.range.start, min (span.range.start + 1) (2 ^ 64 - 1))
@@ -29,7 +30,7 @@ mark_of (FoundAs kind severity span text notes) = mark_by kind span
 abbrev pub is_written : Mended → FindingVal → Bool
 is_written m f = is_same_part (string_bytes m.source) (string_bytes m.text) (mark_of f)
 
--- where the definition ends in which a byte of the text is: at the next word that ends one, or with the text
+-- where the definition ends that a byte of the text is in: at the next word that ends one, or with the text
 abbrev pub end_of_definition : Mended → ℕ → ℕ
 end_of_definition m start = unwrap_or (find (λ at. nat_le start at) (keys m.ends)) (length (string_bytes m.text))
 
@@ -41,8 +42,8 @@ is_lost_between m word start end = list_any (λ at. nat_le start at && nat_lt at
 abbrev pub name_at : Mended → Span → Option (List ℕ)
 name_at m span = text_at (string_bytes m.source) (span.range.start, span.range.end)
 
--- Whether something that was written over in the definition may name the parameter that is found to be unused: a word, an
--- `include`, the variable that shows all others, or a call.
+-- Whether something that was overwritten in the definition may name the parameter that is found to be unused: a word,
+-- an `include`, the variable that shows all others, or a call.
 abbrev pub is_lost_in : Mended → ℕ → List ℕ → Bool
 is_lost_in m start word = is_lost_between m word start (end_of_definition m start)
 
@@ -65,8 +66,9 @@ is_doubtful m (FoundAs kind severity span text notes) = is_doubtful_by m kind sp
 abbrev pub is_undefined : FindingVal → Bool
 is_undefined (FoundAs kind severity span text notes) = is_undefined_kind kind
 
--- It is due where a text with a fault cannot be the cause: of a component that no template defines, where none may define
--- more; in a text that was written for faults, where it is about what the source has. What an ignore silences is not.
+-- A finding is due if no text with a fault can be its cause. So an undefined component is due if no text may define
+-- more components; and in a text that was written for faults, a finding is due if the source has what it is about. What
+-- an ignore silences is not due.
 abbrev pub is_due_in : Option Mended → FindingVal → Bool
 is_due_in None f = true
 is_due_in (Some m) f = is_written m f && not (is_doubtful m f)
@@ -74,11 +76,11 @@ is_due_in (Some m) f = is_written m f && not (is_doubtful m f)
 abbrev pub is_due : Bool → Template → FindingVal → Bool
 is_due open_text t f = not (open_text && is_undefined f) && (is_due_in t.mended f && not (is_silenced t f))
 
--- of what is found in the tree of a template, what is due; and its ignores that silence nothing of all that
+-- what is due among the findings in the tree of a template, and its ignores that silence none of these
 abbrev pub due_among : Bool → Template → List FindingVal → List FindingVal
 due_among open_text t found = unused_ignores open_text t found ++ filter (is_due open_text t) found
 
--- what is due in a template of a number; nothing, where it has no tree
+-- what is due in a template of a number; nothing, if it has no tree
 abbrev pub due_findings : (List ℕ → Option KnownVal) → Bool → ℕ → Template → List FindingVal
 due_findings known open_text number t =
     option_map_or (λ o. due_among open_text t (tree_findings known number t (output_view o))) (tree_of t) []

@@ -20,7 +20,7 @@ use Rattle.tera_check.specs.declared.walk.Walk.{Walk}
 
 -- ---- what a fault comes of: a word of the source, and what is said of it
 
--- where a fault was met whose tag has no end
+-- the text where a fault was met, if its tag has no end
 abbrev pub met_text : List ℕ
 met_text = codes "met here, as the tag is not closed"
 
@@ -33,7 +33,7 @@ closes_nothing_text word = codes "`" ++ (word ++ codes "` closes nothing")
 abbrev pub belongs_to_nothing_text : List ℕ → List ℕ
 belongs_to_nothing_text word = codes "`" ++ (word ++ codes "` belongs to nothing")
 
--- the note that says it, of a word at a place, for a fault that was met at a span
+-- the note on the cause: a word at a place, for a fault that was met at a span
 abbrev pub cause_notes : List ℕ → Span → Span → List ℕ → Says → List NoteVal
 cause_notes file at place word NotClosed = NoteOf file place (not_closed_text word) ∷ []
 cause_notes file at place word ClosesNothing = NoteOf file place (closes_nothing_text word) ∷ []
@@ -46,8 +46,8 @@ abbrev pub has_no_end : Says → Bool
 has_no_end NoEnd = true
 has_no_end _ = false
 
--- The span of the finding: that at which the fault was met; or where this is at the end of the source or after it, or the
--- tag has no end, that of the word.
+-- The span of the finding: where the fault was met; or the span of the word, if the fault is at the end of the source
+-- or after it, or if the tag has no end.
 abbrev pub span_by : Bool → Span → Span → Span
 span_by true at place = place
 span_by false at place = at
@@ -57,7 +57,7 @@ span_with source at says place = span_by (nat_le (length source) at.range.start 
 
 -- ---- a fault
 
--- that there are more faults than are reported, if so
+-- the text that there are more faults than are reported, if there are
 abbrev pub more_text : List ℕ
 more_text = codes "there are more faults: the rest of the file is not checked"
 
@@ -65,8 +65,8 @@ abbrev pub more_if : Bool → Option (List ℕ)
 more_if true = Some more_text
 more_if false = None
 
--- the hint for a fault with a message that begins at a byte: where a character of the source begins there, that for the
--- source before it and from there on
+-- the hint for a fault with a message, at a byte: it looks at the source before the byte and from there on; there is
+-- none if no character of the source begins there
 abbrev pub IsHintAt : List ℕ → List ℕ → ℕ → Option (List ℕ) → Type 0
 IsHintAt source message at hint =
     (hint ≡ hint_in message (take at source) (drop at source)) ⊎ ((IsCharBoundary source at → ⊥) × (hint ≡ None))
@@ -74,8 +74,8 @@ IsHintAt source message at hint =
 abbrev pub IsHintFor : List ℕ → FindingVal → Option (List ℕ) → Type 0
 IsHintFor source (FoundAs kind severity at text notes) hint = IsHintAt source text at.range.start hint
 
--- a finding as it is of the fault alone, and with what it comes of: after the notes that it has come a hint, the cause, and
--- that there are more
+-- a finding of a fault, with its cause: its notes are followed by the hint, by the cause, and by the note that there
+-- are more
 abbrev pub with_cause : List ℕ → List ℕ → Span → List ℕ → Says → Option (List ℕ) → Bool → FindingVal → FindingVal
 with_cause file source place word says hint more (FoundAs kind severity at text notes) =
     FoundAs kind severity (span_with source at says place) text
@@ -89,8 +89,8 @@ pub record IsPartOf (source : List ℕ) (span : Span) (part : List ℕ) : Type 0
   pub is : source ≡ before ++ (part ++ after)
   pub at : span ≡ span_of before part
 
--- The finding is that of the error in the file of a name, with what the fault comes of: a word of the source, where
--- something is said of it.
+-- It is the finding of the error in the file of a name, with the cause of the fault: a word of the source, if something
+-- is said of it.
 pub record IsOfFaultBy (file source : List ℕ) (error : ErrorVal) (f : FindingVal) : Type 0 where
   pub alone : FindingVal
   pub of_error : IsOfError file error alone
@@ -129,7 +129,7 @@ abbrev pub AreOfFaults : List ℕ → Mended → List FindingVal → Type 0
 AreOfFaults file m fs =
     (each : List FindingVal) × AreOfEach file (string_bytes m.source) m.faults.items each × IsPermutation each fs
 
--- those of a template: none where it has a tree, and the one that is known where its faults were not looked for
+-- the faults of a template: none if it was parsed, and one if the others were not looked for
 abbrev pub AreFaultsBy : List ℕ → Result ParserOutput Error → Option Mended → List FindingVal → Type 0
 AreFaultsBy file (Ok o) m fs = fs ≡ []
 AreFaultsBy file (Err e) None fs = (f : FindingVal) × (fs ≡ f ∷ []) × IsOfError file (error_view e) f

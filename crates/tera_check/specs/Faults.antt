@@ -4,7 +4,7 @@ use Rattle.tera_base.specs.declared.errors.Error.{Error}
 use Rattle.tera_base.specs.declared.errors.ErrorKind.{ErrorKind}
 use Rattle.tera_base.specs.declared.errors.ErrorKind.TheVariants as kinds
 
--- a syntax error: neither a text without a place, nor an allocation failure
+-- a syntax error: not a text without a place, and not an allocation failure
 abbrev pub IsSyntaxErrorKind : ErrorKind → Type 0
 IsSyntaxErrorKind kinds.Memory = ⊥
 IsSyntaxErrorKind (kinds.Message s) = ⊥

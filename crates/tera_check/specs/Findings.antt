@@ -20,11 +20,11 @@ place_of s = record { line = s.start_line; column = min (s.start_col + 1) (2 ^ 6
 abbrev pub end_of : Span → Place
 end_of s = record { line = s.end_line; column = min (s.end_col + 1) (2 ^ 64 - 1) }
 
--- the span of nothing, where a file begins
+-- an empty span at the start of a file
 abbrev pub first_span : Span
 first_span = record { start_line = 1; start_col = 0; end_line = 1; end_col = 0; range = record { start = 0; end = 0 } }
 
--- the span of a name; the beginning of the file where that is not known
+-- the span of a name; the start of the file if it is not known
 abbrev pub span_if_any : Option Span → Span
 span_if_any None = first_span
 span_if_any (Some span) = span
@@ -61,7 +61,8 @@ all_kinds =
     ∷ kinds.UnusedComponent ∷ kinds.DefinedAgain ∷ kinds.RepeatedKey ∷ kinds.RepeatedCondition ∷ kinds.UnusedIgnore ∷ kinds.MissingTemplate ∷ kinds.CircularExtends ∷ kinds.CircularInclude
     ∷ kinds.UndefinedBlock ∷ kinds.SuperWithoutParent ∷ kinds.UnknownFilter ∷ kinds.UnknownTest ∷ kinds.UnknownFunction ∷ []
 
--- how grave a kind is, unless another severity is set for it: what is not used, or may not be meant, is a warning, all else an error
+-- the severity of a kind, unless another one is set for it: what is not used, or may not be meant, is a warning, and
+-- all else an error
 abbrev pub severity_of : Kind → Severity
 severity_of kinds.RepeatedArgument = severities.Warning
 severity_of kinds.UnusedBody = severities.Warning
@@ -75,8 +76,7 @@ severity_of kinds.UndefinedBlock = severities.Warning
 severity_of kinds.SuperWithoutParent = severities.Warning
 severity_of _ = severities.Error
 
--- what a kind counts for, unless something else is set; components that no template calls are off, as the program may call
--- these
+-- the level of a kind, unless something else is set; unused components are off, as the program may call them
 abbrev pub default_level : Kind → Option Severity
 default_level kinds.UnusedComponent = None
 default_level kind = Some (severity_of kind)
@@ -105,7 +105,7 @@ abbrev pub severity_name : Severity → List ℕ
 severity_name severities.Error = codes "error"
 severity_name severities.Warning = codes "warning"
 
--- what a line calls a finding: how grave it is, and the word for its kind
+-- what a line calls a finding: its severity, and the word for its kind
 abbrev pub label_of : Kind → Severity → List ℕ
 label_of kind severity = severity_name severity ++ (codes "[" ++ (kind_name kind ++ codes "]"))
 
@@ -113,11 +113,11 @@ label_of kind severity = severity_name severity ++ (codes "[" ++ (kind_name kind
 pub data NoteVal : Type 0 where
   NoteOf : List ℕ → Span → List ℕ → NoteVal
 
--- a finding: its kind, how grave it is, the span that it is about, its text, and its notes in order
+-- a finding: its kind, its severity, the span that it is about, its text, and its notes in order
 pub data FindingVal : Type 0 where
   FoundAs : Kind → Severity → Span → List ℕ → List NoteVal → FindingVal
 
--- .. as grave as its kind is
+-- .. with the severity of its kind
 abbrev pub FindingOf : Kind → Span → List ℕ → List NoteVal → FindingVal
 FindingOf kind = FoundAs kind (severity_of kind)
 
@@ -127,19 +127,19 @@ note_view n = NoteOf (string_bytes n.file) n.span (string_bytes n.message)
 abbrev pub finding_view : Finding → FindingVal
 finding_view f = FoundAs f.kind f.severity f.span (string_bytes f.message) (map note_view f.notes.items)
 
--- a hint for a fault whose text alone does not say what a user can do about it, or that a limit of this parser is met
+-- a hint for a fault whose text does not say what a user can do about it, or that it is a limit of this parser
 abbrev pub float_hint : List ℕ
 float_hint = codes "Tera reads floating-point numbers, and this parser does not"
 
 abbrev pub hint_of : List ℕ → Option (List ℕ)
 hint_of text = if bytes_eq text (codes "Float literals are not supported") then Some float_hint else None
 
--- the note that has it, at the place of the fault
+-- the note with the hint, at the place of the fault
 abbrev pub hint_notes : List ℕ → Span → Option (List ℕ) → List NoteVal
 hint_notes file span None = []
 hint_notes file span (Some hint) = NoteOf file span hint ∷ []
 
--- what is found of a note of a fault, and of a fault in the file of a name: after the notes that it has the hint
+-- the note for a note of a fault, and the finding of a fault in the file of a name: its notes are followed by the hint
 abbrev pub note_of : errors.NoteVal → NoteVal
 note_of (errors.NoteOf label file span) = NoteOf file span label
 
@@ -147,7 +147,7 @@ abbrev pub finding_of : List ℕ → ReportVal → FindingVal
 finding_of file (ReportOf text span notes) =
     FindingOf kinds.Fault span text (map note_of notes ++ hint_notes file span (hint_of text))
 
--- the finding is that of the error in the file of a name; there is none of an allocation failure
+-- it is the finding of the error in the file of a name; an allocation failure has none
 abbrev pub IsOfError : List ℕ → ErrorVal → FindingVal → Type 0
 IsOfError file NoMemory f = ⊥
 IsOfError file (Saying text) f = f ≡ FindingOf kinds.Fault first_span text []

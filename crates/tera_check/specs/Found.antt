@@ -21,8 +21,8 @@ pub record IsAllOf (known : List ℕ → Option KnownVal) (open_text : Bool) (nu
   pub are : AreFaultsOf template faults
   pub found : IsPermutation (faults ++ due_findings known open_text number template) (map finding_view findings)
 
--- what is found in a template of this number, in the order of the places: all of that; of the library, which is after the
--- templates that are checked, the faults
+-- what is found in a template of this number, in the order of the places: all of that; or only the faults, for the
+-- library, which is after the templates that are checked
 pub record IsFoundOf (known : List ℕ → Option KnownVal) (open_text : Bool) (checked number : ℕ) (template : Template) (findings : List Finding) : Type 0 where
   pub in_order : IsInOrder findings
   pub found : number < checked → IsAllOf known open_text number template findings
@@ -39,7 +39,7 @@ pub data AreFound (known : List ℕ → Option KnownVal) (open_text : Bool) (che
       → IsFoundUnder known open_text checked number template found → AreFound known open_text checked (suc number) templates all
       → AreFound known open_text checked number (template ∷ templates) (found ∷ all)
 
--- what is seen of it: a file and what is found there
+-- what this represents: a file and what is found there
 abbrev pub FoundVal : Type 0
 FoundVal = List ℕ × List FindingVal
 

@@ -1,4 +1,4 @@
--- What to write in the place of what has a fault.
+-- Hints for faults: what to write instead.
 use Rattle.std.specs.Prelude.{ℕ, List, [], ◌∷◌, Bool, true, false, not, ◌&&◌, ◌||◌, ◌==◌, if◌then◌else◌, codes, drop, length, nat_eq, take, Option, None, Some}
 use Rattle.std.specs.Char.{is_ascii_alphabetic, is_ascii_whitespace}
 use Rattle.std.specs.List.{ends_with, list_any, position_or_len, starts_with}
@@ -24,9 +24,9 @@ begins_with front text = starts_with nat_eq text front
 abbrev pub ends_in : List ℕ → List ℕ → Bool
 ends_in end text = ends_with nat_eq (trim_end text) end
 
--- ---- of a tag whose word is none
+-- ---- for a tag whose word is not one of a tag
 
--- there is no word, or it is that of a tag that may not be there
+-- there is no word, or it is the word of a tag that may not be there
 abbrev pub is_known : List ℕ → Bool
 is_known =
     is_one_of ([] ∷ codes "else" ∷ codes "elif" ∷ codes "endif" ∷ codes "endfor" ∷ codes "endblock" ∷ codes "endcomponent" ∷ codes "endset" ∷ codes "endfilter" ∷ codes "endraw" ∷ [])
@@ -45,7 +45,7 @@ tags_hint =
 abbrev pub hint_for_tag : List ℕ → Option (List ℕ)
 hint_for_tag word = if is_known word then None else (if is_of_macros word then Some macro_hint else Some tags_hint)
 
--- ---- of an argument without its name, an `if` after `else`, a byte order mark before `extends`, two braces
+-- ---- for an argument without its name, an `if` after `else`, a byte order mark before `extends`, two braces
 
 abbrev pub hint_for_string : List ℕ → Option (List ℕ)
 hint_for_string before =
@@ -80,7 +80,8 @@ hint_for_braces there =
     if begins_with (codes "}}") there && begins_with (codes "}}") (without_dash (without_blanks (drop 2 there)))
     then Some (codes "`}}` ends the tag here: write `} }` to close two maps") else None
 
--- the hint for a fault with this message, of which the source has `before` before it, and `there` from its first byte on
+-- the hint for a fault with this message: `before` is the source before it, and `there` the source from its first byte
+-- on
 abbrev pub hint_in : List ℕ → List ℕ → List ℕ → Option (List ℕ)
 hint_in message before there =
     if bytes_eq message (codes "Unknown tag") then hint_for_tag (word_of there)

@@ -1,4 +1,4 @@
--- Comments that silence findings: `tera-ignore:`, and rules with commas between.
+-- Comments that silence findings: `tera-ignore:` and rules, which commas separate.
 use Rattle.std.specs.Prelude.{◌≡◌, ◌+◌, ◌-◌, ℕ, List, [], ◌∷◌, ◌++◌, Bool, true, ◌&&◌, ◌||◌, ◌==◌, if◌then◌else◌, nat_eq, codes, drop, length, map, reverse, string_bytes, take, unwrap_or, Option, None, Some, Result, Ok, Err}
 use Rattle.std.specs.Char.{is_ascii_whitespace}
 use Rattle.std.specs.List.{filter, prefix_len, suffix_len, slice_split}
@@ -87,7 +87,7 @@ is_alone text span =
 abbrev pub ignore_of : Span → Bool → List ℕ → IgnoreVal
 ignore_of span alone rule = record { rule = trimmed rule; span = span; alone = alone }
 
--- the rules that have commas between
+-- the rules in a text, which commas separate
 abbrev pub ignores_of_rules : List ℕ → Span → List ℕ → List IgnoreVal
 ignores_of_rules text span rules = map (ignore_of span (is_alone text span)) (slice_split (λ b. nat_eq b 44) rules)
 
@@ -103,7 +103,8 @@ ignores_in start end text (Token t span items) = ignores_at start end text span 
 abbrev pub AreIgnoresOf : Marks → List ℕ → List IgnoreVal → Type 0
 AreIgnoresOf m text is = (items : Items) × AreTokensOf m text items × (is ≡ ignores_in m.comment_start m.comment_end text items)
 
--- of a source with faults: those of the text that it was read as, if the source has the comment at the same place
+-- the ignores of a source with faults: those of the text that it was read as, if the source has the comment at the same
+-- place
 abbrev pub is_kept : List ℕ → List ℕ → IgnoreVal → Bool
 is_kept source text i = is_same_part source text (i.span.range.start, i.span.range.end)
 
@@ -111,7 +112,7 @@ abbrev pub AreIgnoresOfMended : List ℕ → Mended → List IgnoreVal → Type 
 AreIgnoresOfMended source m is =
     (all : List IgnoreVal) × AreIgnoresOf default_marks (string_bytes m.text) all × (is ≡ filter (is_kept source (string_bytes m.text)) all)
 
--- of a template: none where a fault is known and nothing else
+-- the ignores of a template: none if only a fault of it is known
 abbrev pub AreIgnoresBy : Marks → List ℕ → Result ParserOutput Error → Option Mended → List IgnoreVal → Type 0
 AreIgnoresBy m source (Ok o) mended is = AreIgnoresOf m source is
 AreIgnoresBy m source (Err e) None is = is ≡ []

@@ -1,4 +1,4 @@
--- What is found of a call of a component.
+-- What is found in a call of a component.
 use Rattle.std.specs.Prelude.{ℕ, List, [], ◌∷◌, ◌++◌, Bool, true, false, not, ◌&&◌, ◌||◌, if◌then◌else◌, nat_eq, Option, None, Some, codes, suc, string_bytes}
 use Rattle.std.specs.List.{flat_map, list_any}
 use Rattle.std.specs.Option.{is_some, option_map}
@@ -50,21 +50,20 @@ known_view k = record {
 abbrev pub takes_it : List ℕ → List ℕ × Argument → Bool
 takes_it n a = a.1.implicit && bytes_eq a.0 n
 
--- which variables a call may take by itself, whether it is given values for them or not: those of the implicit
--- parameters of its component, except one that a loop hides; of a component that no template defines whichever there
--- are
+-- which variables a call may take by itself, whether it passes values for them or not: those of the implicit parameters
+-- of its component, except one that a loop hides; and any variable, if no template defines the component
 abbrev pub taken_by : Option KnownVal → Bool → List ℕ → Bool
 taken_by None hidden n = true
 taken_by (Some k) hidden n = not hidden && list_any (takes_it n) k.definition.arguments
 
--- a finding about a call of it, with a note that says where it is defined
+-- a finding about a call of the component, with a note at its definition
 abbrev pub here_text : List ℕ → List ℕ
 here_text name = codes "`" ++ (name ++ codes "` is defined here")
 
 abbrev pub defined_here : KnownVal → NoteVal
 defined_here k = NoteOf k.file k.span (here_text k.definition.name)
 
--- of what kind a finding is, and its text
+-- the kind of a finding, and its text
 pub record RemarkVal : Type 0 where
   pub kind : Kind
   pub text : List ℕ
@@ -79,7 +78,7 @@ abbrev pub remarked : KnownVal → Span → Option RemarkVal → List FindingVal
 remarked k span None = []
 remarked k span (Some r) = about k span r ∷ []
 
--- ---- why a value is refused under a name, if it is; of what is not a constant the type is not known
+-- ---- why the component does not accept a value under a name, if it does not; the type is known of a constant only
 
 abbrev pub wrong_type : List ℕ → Val → ArgType → RemarkVal
 wrong_type n v t = record { kind = kinds.WrongType; text = wrong_type_text n v t }
@@ -106,8 +105,8 @@ refused_for None d n v = refused_name d n
 abbrev pub refusal : Definition → List ℕ → Option Val → Option RemarkVal
 refusal d n v = refused_for (found n d.arguments) d n v
 
--- ---- what is passed and refused: under a name that comes again the last counts, and where more may be passed after
--- it, a constant may not be the value that counts
+-- ---- what is passed and not accepted: if a name comes again, its last value counts; if more may be passed after a
+-- constant, it may not be the value that counts
 
 abbrev pub counted : Bool → Option Val → Option Val
 counted more v = if more then None else v
@@ -127,7 +126,7 @@ abbrev pub refused_findings : KnownVal → List PassedVal → List FindingVal
 refused_findings k [] = []
 refused_findings k (p ∷ ps) = refused_findings k ps ++ refused_one k (is_again p ps) (has_whatever ps) p
 
--- ---- what has to be given and is not passed
+-- ---- what has to be passed and is not
 
 abbrev pub is_required : Argument → Bool
 is_required a = not a.implicit && not (is_some a.default)
@@ -144,7 +143,7 @@ missing_findings k passed span = flat_map (λ a. remarked k span (missed passed 
 abbrev pub missing_in : KnownVal → Span → List PassedVal → List FindingVal
 missing_in k span ps = if has_whatever ps then [] else missing_findings k (λ n. is_passed n ps) span
 
--- ---- what a call at a span passes: to a component that is known, or not
+-- ---- what is found in what a call at a span passes, to a component that is known or not
 
 abbrev pub undefined_text : List ℕ → List ℕ
 undefined_text name = codes "No template defines a component named `" ++ (name ++ codes "`")
@@ -156,7 +155,7 @@ abbrev pub judged : Option KnownVal → List ℕ → Span → List PassedVal →
 judged None name span ps = undefined span name ∷ []
 judged (Some k) name span ps = refused_findings k ps ++ missing_in k span ps
 
--- ---- a body that is not white space alone, for a component that never shows it
+-- ---- a body that is not only white space, for a component that never shows it
 
 abbrev pub unused_body_text : List ℕ → List ℕ
 unused_body_text name = codes "Component `" ++ (name ++ codes "` never shows the body that it is given")

@@ -12,18 +12,19 @@ use Rattle.tera_check.specs.declared.found.Found.{Found}
 use Rattle.tera_check.specs.declared.levels.Levels.{Levels}
 use Rattle.tera_check.specs.declared.levels.RuleLevel.{RuleLevel}
 
--- whether the rule of a kind is among some
+-- whether the rule of a kind is among these
 abbrev pub has_rule : List (Bor (List ℕ)) → Kind → Bool
 has_rule rules kind = list_any (λ rule. bytes_eq rule.now (kind_name kind)) rules
 
 abbrev pub is_of : Kind → RuleLevel → Bool
 is_of kind rule = bytes_eq rule.rule.now (kind_name kind)
 
--- what a kind counts for as its rule is set: none where it is off; what it counts for by itself, where nothing is set
+-- what a kind counts for as its rule is set: none if that is off; its default level, if nothing is set
 abbrev pub set_level : List RuleLevel → Kind → Option Severity
 set_level set kind = option_map_or (λ rule. rule.level) (find (is_of kind) set) (default_level kind)
 
--- If rules are selected, these alone are on, whatever they are set to: one that is off is as grave as its kind.
+-- If rules are selected, only these are on, whatever they are set to: one that is set to be off has the severity of its
+-- kind.
 abbrev pub selected_by : List (Bor (List ℕ)) → Kind → Option Severity → Option Severity
 selected_by rules kind set = if has_rule rules kind then Some (unwrap_or set (severity_of kind)) else None
 
@@ -31,7 +32,7 @@ abbrev pub selected : Levels → Kind → Option Severity
 selected levels kind =
     option_map_or (λ rules. selected_by rules.now kind (set_level levels.set.now kind)) levels.select (set_level levels.set.now kind)
 
--- of rules that are ignored nothing is reported
+-- nothing is reported of the rules that are ignored
 abbrev pub is_ignored : Levels → Kind → Bool
 is_ignored levels kind = option_map_or (λ rules. has_rule rules.now kind) levels.ignore false
 
@@ -39,7 +40,7 @@ abbrev pub is_fault : Kind → Bool
 is_fault kinds.Fault = true
 is_fault _ = false
 
--- What a kind counts for, if it is not off. Faults are errors, whatever is asked.
+-- What a kind counts for, if it is not off. Faults are always errors.
 abbrev pub level_of : Levels → Kind → Option Severity
 level_of levels kind =
     if is_fault kind then Some (severity_of kind) else (if is_ignored levels kind then None else selected levels kind)
@@ -49,11 +50,11 @@ level_of levels kind =
 abbrev pub is_on : (Kind → Option Severity) → Finding → Bool
 is_on level finding = is_some (level finding.kind)
 
--- a finding as grave as its kind counts for
+-- a finding with the severity that its kind counts for
 abbrev pub at_level : (Kind → Option Severity) → Finding → Finding
 at_level level finding = record finding { severity = unwrap_or (level finding.kind) finding.severity }
 
--- of some findings those that are not off, in their order
+-- the findings that are not off, in their order
 abbrev pub reported : (Kind → Option Severity) → List Finding → List Finding
 reported level findings = map (at_level level) (filter (is_on level) findings)
 
@@ -65,6 +66,6 @@ in_file found = (found.file.now, found.findings.items)
 abbrev pub reported_in : (Kind → Option Severity) → List ℕ × List Finding → List ℕ × List Finding
 reported_in level (file, findings) = (file, reported level findings)
 
--- what is reported of what is found in each file
+-- what is reported in each file, of what is found there
 abbrev pub AreReportedOf : (Kind → Option Severity) → List Found → List Found → Type 0
 AreReportedOf level found all = map in_file all ≡ map (reported_in level) (map in_file found)

@@ -1,4 +1,4 @@
--- Words of a source in the place of which a text has something else.
+-- Words of a source where a text has something else in their place.
 use Rattle.std.specs.Prelude.{◌≡◌, ◌≢◌, ◌↔◌, ◌⊎◌, ◌<◌, ◌≤◌, ◌+◌, ◌-◌, ℕ, suc, String, List, [], Bool, true, false, ◌||◌, length, take, drop, slice_index, codes, Option, None, Some, Result, Ok, Err}
 use Rattle.std.specs.BTreeMap.{BTreeMap, get_by_text}
 use Rattle.std.specs.BTreeSet.{BTreeSet, keys}
@@ -11,8 +11,8 @@ use Rattle.tera_tree.specs.declared.outputs.ParserOutput.{ParserOutput}
 use Rattle.tera_check.specs.declared.mended.Mended.{Mended}
 use Rattle.tera_check.specs.declared.templates.Template.{Template}
 
--- The bytes from `start` on and before `end` are a whole word of the text: letters, digits and `_`; neither the byte before
--- them nor the one after them is one of these.
+-- The bytes from `start` on and before `end` are a whole word of the text: letters, digits and `_`; neither the byte
+-- before them nor the one after them is one of these.
 pub record IsWordBetween (text : List ℕ) (start end : ℕ) : Type 0 where
   pub some : start < end
   pub within : end ≤ length text
@@ -20,7 +20,7 @@ pub record IsWordBetween (text : List ℕ) (start end : ℕ) : Type 0 where
   pub first : (k : ℕ) → suc k ≡ start → goes_on_name (slice_index text k) ≡ false
   pub last : end < length text → goes_on_name (slice_index text end) ≡ false
 
--- or they are the `<` with which a call begins
+-- or they are a `<`, with which a call begins
 pub record IsMarkBetween (text : List ℕ) (start end : ℕ) : Type 0 where
   pub one : end ≡ start + 1
   pub within : end ≤ length text
@@ -42,7 +42,7 @@ pub record IsWordAt (text word : List ℕ) (at : ℕ) : Type 0 where
   pub alone : IsBetween text at (at + length word)
   pub is : part_at at (length word) text ≡ word
 
--- these bytes are there, and the word is between them
+-- the text has all bytes between these two, and they are the word
 abbrev pub HasBetween : List ℕ → List ℕ → ℕ → ℕ → Type 0
 HasBetween text word start end = (start ≤ end) × (end ≤ length text) × (part_at start (end - start) text ≡ word)
 
@@ -64,8 +64,8 @@ places_under places word = option_map_or (λ s. keys s) (get_by_text places word
 abbrev pub is_lost : Mended → List ℕ → Bool
 is_lost m word = is_some (get_by_text m.lost word)
 
--- Whether a template may define more components than its tree has: it has a fault of which nothing more is known, or the
--- word of a head or of an end of a definition is lost.
+-- Whether a template may define more components than its tree has: it has a fault of which nothing more is known, or
+-- the word of a head or of an end of a definition is lost.
 abbrev pub is_open_by : Result ParserOutput Error → Option Mended → Bool
 is_open_by (Ok o) m = false
 is_open_by (Err e) None = true

@@ -12,8 +12,8 @@ use Rattle.tera_check.specs.Lost.{IsLostAt, IsWordAt, places_under}
 use Rattle.tera_check.specs.declared.mended.Mended.{Mended}
 use Rattle.tera_check.specs.declared.templates.Template.{Template}
 
--- The faults lead from the source of the file to a text, and the text that was read is that, where these are all faults.
--- There are as many as may be reported at the most, and one at least.
+-- The faults lead from the source of the file to a text. That is the text that was read, if these are all faults. There
+-- is at least one, and at most as many as may be reported.
 pub record IsMended (file source : List ℕ) (most : ℕ) (m : Mended) : Type 0 where
   pub is_source : string_bytes m.source ≡ source
   pub some : 0 < length m.faults.items
@@ -25,7 +25,7 @@ pub record IsMended (file source : List ℕ) (most : ℕ) (m : Mended) : Type 0 
   pub lost : (n : List ℕ) (at : ℕ) → Contains (places_under m.lost n) at ↔ IsLostAt source (string_bytes m.text) n at
   pub ends_of : (at : ℕ) → Contains (keys m.ends) at ↔ IsWordAt (string_bytes m.text) (codes "endcomponent") at
 
--- the text of which a template has the tree: its source, or what that was read as
+-- the text whose tree a template has: its source, or what that was read as
 abbrev pub text_by : List ℕ → Option Mended → List ℕ
 text_by source m = option_map_or (λ m. string_bytes m.text) m source
 

@@ -24,7 +24,7 @@ use Rattle.tera_check.specs.declared.templates.Template.{Template}
 abbrev pub known_in : BTreeMap (String Global) Known → List ℕ → Option KnownVal
 known_in catalogue n = option_map known_view (get_by_text catalogue n)
 
--- the span of the name of a template's component of a number, from 0; the beginning of the file where that is not known
+-- the span of the name of a template's component of a number, from 0; the start of the file if it is not known
 abbrev pub span_at : Template → ℕ → Span
 span_at t at = slice_index_or t.defined_at.items at first_span
 
@@ -38,12 +38,12 @@ known_at number t at d = record {
   shows_body = shows_in t d.name;
 }
 
--- the components of a template: these definitions, from that of a number on
+-- the components of a template: these definitions, of which the first has this number
 abbrev pub defined_from : ℕ → Template → ℕ → List Definition → List KnownVal
 defined_from number t at [] = []
 defined_from number t at (d ∷ ds) = known_at number t at d ∷ defined_from number t (suc at) ds
 
--- the tree of a template; where it has a fault, that of what is left of it, if that is known
+-- the tree of a template; if it has a fault, the tree that it was mended to, if there is one
 abbrev pub tree_by : Result ParserOutput Error → Option Mended → Option ParserOutput
 tree_by (Ok o) m = Some o
 tree_by (Err e) m = option_map (λ m. m.output) m
@@ -51,7 +51,7 @@ tree_by (Err e) m = option_map (λ m. m.output) m
 abbrev pub tree_of : Template → Option ParserOutput
 tree_of t = tree_by t.parsed t.mended
 
--- the definitions of that
+-- the definitions in the tree, if there is one
 abbrev pub definitions_in : Option ParserOutput → List Definition
 definitions_in None = []
 definitions_in (Some output) = map definition_view output.component_definitions.items
@@ -62,12 +62,12 @@ definitions_of t = definitions_in (tree_of t)
 abbrev pub defined_in : ℕ → Template → List KnownVal
 defined_in number t = defined_from number t 0 (definitions_of t)
 
--- those of templates in order, of which the first has a number
+-- the components of templates in order, of which the first has this number
 abbrev pub defined_by : ℕ → List Template → List KnownVal
 defined_by number [] = []
 defined_by number (t ∷ ts) = defined_in number t ++ defined_by (suc number) ts
 
--- the first of a name
+-- the first component of a name
 abbrev pub first_named : List ℕ → List KnownVal → Option KnownVal
 first_named n [] = None
 first_named n (k ∷ ks) = cond (bytes_eq k.definition.name n) (Some k) (first_named n ks)
@@ -77,12 +77,12 @@ abbrev pub or_else : Option KnownVal → Option KnownVal → Option KnownVal
 or_else None other = other
 or_else (Some k) other = Some k
 
--- which variables a call of a component of a name may take where they are not given
+-- which variables a call of a component of a name may take by itself
 abbrev pub taken_in : (List ℕ → Option KnownVal) → Taking
 taken_in known name = taken_by (known name)
 
--- what is found in a template of a number, by what is known under each name: components that are defined before,
--- parameters that are never used, calls; and what is found in its parts by themselves
+-- what is found in a template of a number, by what is known under each name: components that an earlier template
+-- defines, parameters that are never used, the findings of calls, and those of each part by itself
 abbrev pub tree_findings : (List ℕ → Option KnownVal) → ℕ → Template → Output → List FindingVal
 tree_findings known number t o =
     again_findings known number (span_at t) 0 o.definitions

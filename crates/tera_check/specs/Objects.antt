@@ -1,4 +1,4 @@
--- The objects of JSON that are written of findings.
+-- Findings as objects of JSON.
 use Rattle.std.specs.Prelude.{ℕ, List, [], ◌∷◌, ◌++◌, codes}
 use Rattle.std.specs.List.{flat_map}
 use Rattle.json.specs.Token.{Token, begin_object, end_object, begin_array, end_array, key}
@@ -24,7 +24,7 @@ note_object (NoteOf file span text) = (begin_object ∷ []) ++ (members file spa
 abbrev pub notes_member : List NoteVal → List Token
 notes_member notes = key (codes "notes") ∷ begin_array ∷ (flat_map note_object notes ++ end_array ∷ [])
 
--- an object also has how grave it is, and the word for its kind
+-- an object also has the severity, and the word for the kind
 unfoldable pub object_with : List ℕ → Span → List ℕ → Severity → List ℕ → List NoteVal → List Token
 object_with file span text severity word notes =
     begin_object ∷ (members file span text
@@ -36,6 +36,6 @@ abbrev pub object_of : List ℕ → FindingVal → List Token
 object_of file (FoundAs kind severity span text notes) =
     object_with file span text severity (kind_name kind) notes
 
--- of a file that could not be read, and why: its place is the start of the file
+-- the object for a file that could not be read, and why: its place is the start of the file
 unfoldable pub unread_object : List ℕ → List ℕ → List Token
 unread_object file why = object_with file first_span why Error (codes "unread") []

@@ -14,7 +14,7 @@ place_cmp p q = ordering_then (nat_cmp p.line q.line) (nat_cmp p.column q.column
 abbrev pub IsInOrder : List Finding → Type 0
 IsInOrder fs = IsSortedByKey (λ f. place_of f.span) place_cmp fs
 
--- the status: 2 where a template could not be read, or else 1 where an error was found
+-- the status: 2 if a template could not be read, else 1 if an error was found
 abbrev pub status_of : Bool → Bool → ℕ
 status_of errors true = 2
 status_of true false = 1

@@ -26,15 +26,15 @@ all_variables = codes "__tera_context"
 abbrev pub variable_names : Bool → List ℕ → List ℕ → Bool
 variable_names hidden n name = bytes_eq name all_variables || not hidden && bytes_eq name n
 
--- whether a call of a component of this name may take a variable by itself, whether it is given a value for it or not:
--- one that a loop or a comprehension hides, or does not, and has that name
+-- whether a call of a component of this name may take the variable of that name by itself, whether the call passes a
+-- value for it or not; a loop or a comprehension hides the variable, or does not
 abbrev pub Taking : Type 0
 Taking = List ℕ → Bool → List ℕ → Bool
 
--- A parameter of this name is named: by a variable of its name, but where a loop or a comprehension around gives that
--- name to its items (there it is hidden); by the variable that shows all; by an `include`, since the template that is
--- included has the variables of this one; and by a call of a component that may take the variable by itself. A `set`
--- gives the variable another value, and names nothing.
+-- A parameter is named by a variable of its name, unless a loop or a comprehension around it gives that name to its
+-- items (there it is hidden); by the variable that shows all; by an `include`, since the template that is included has
+-- the variables of this one; and by a call of a component that may take the variable by itself. A `set` gives the
+-- variable another value, and names nothing.
 abbrev mutual
   pub named_in : Taking → Bool → List ℕ → Expr → Bool
   named_in takes hidden n (Const v span) = false
@@ -96,7 +96,7 @@ abbrev mutual
   named_in_nodes takes hidden n NoNodes = false
   named_in_nodes takes hidden n (OneNode s ss) = named_in_node takes hidden n s || named_in_nodes takes hidden n ss
 
--- where a template has the parameters of a component, by the name of the component and their own
+-- where a template has the parameters of a component, by its name and theirs
 abbrev pub located_if_any : Option Located → Located
 located_if_any None = nothing_located
 located_if_any (Some names) = names
@@ -108,7 +108,7 @@ parameter_at t component = located_if_any (grouped_of t.parameters_at component)
 abbrev pub may_be_unused : List ℕ → Bool
 may_be_unused name = starts_with nat_eq name (codes "_")
 
--- a parameter that is at this place, and is not named
+-- the finding of a parameter at this place that is not named
 abbrev pub unused_text : List ℕ → List ℕ → List ℕ
 unused_text component name =
     codes "Parameter `" ++ (name ++ (codes "` is never used in the body of component `" ++ (component ++ codes "`")))

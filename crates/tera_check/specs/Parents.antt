@@ -1,4 +1,4 @@
--- Where a text has the name of the template that it extends.
+-- Where the name of the template is that a text extends.
 use Rattle.std.specs.Prelude.{◌≡◌, List, ℕ, Bool, true, false, if◌then◌else◌, codes, Option, None, Some}
 use Rattle.std.specs.Str.{bytes_eq}
 use Rattle.tera_base.specs.declared.utils.Span.{Span}
@@ -9,7 +9,7 @@ use Rattle.tera_lexer.specs.declared.lexer.delimiters.Kind.TheVariants.{Block}
 use Rattle.tera_check.specs.declared.parents.Before.{Before}
 use Rattle.tera_check.specs.declared.parents.Before.TheVariants.{Start, Extends, Other}
 
--- what a token was, after others: the start of a tag; `extends`, if that is the first word of a tag; or anything else
+-- what the last token is: the start of a tag; `extends`, if that is the first word of a tag; or anything else
 abbrev pub first_word : Before → List ℕ → Before
 first_word Start word = if bytes_eq word (codes "extends") then Extends else Other
 first_word _ word = Other
@@ -35,7 +35,7 @@ name_after before (Failed text span) = None
 name_after before (Token t span items) =
     if is_name_after before t then Some span else name_after (before_next before t) items
 
--- of a text that extends the template of a name, or none
+-- the place in a text that extends the template of a name, or none
 abbrev pub IsParentAt : List ℕ → Option (List ℕ) → Option Span → Type 0
 IsParentAt text None at = at ≡ None
 IsParentAt text (Some name) at = (items : Items) × AreTokensOf default_marks text items × (at ≡ name_after Other items)

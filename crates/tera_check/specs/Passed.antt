@@ -42,7 +42,7 @@ abbrev pub constant_of : Expr → Option Val
 constant_of (Const v span) = Some v
 constant_of _ = None
 
--- a value under a key: a key that is not text names no argument
+-- what a value under a key passes: nothing, if the key is not text
 abbrev pub under_key : KeyVal → Span → Option Val → List PassedVal
 under_key (TextKey n) span v = OneNamed (record { name = n; span = span; constant = v }) ∷ []
 under_key _ span v = []
@@ -64,12 +64,12 @@ passed_by NoEntries = []
 passed_by (Entry k e es) = under_key k (expr_span e) (constant_of e) ++ passed_by es
 passed_by (SpreadEntry e es) = by_spread (constant_of e) (expr_span e) ++ passed_by es
 
--- by one attribute
+-- what one attribute passes
 abbrev pub passed_by_one : MapEntryOf Expr → List PassedVal
 passed_by_one (entries.KeyValue k e) = under_key (key_view k) (expr_span e) (constant_of e)
 passed_by_one (entries.Spread e) = by_spread (constant_of e) (expr_span e)
 
--- whether something is passed under a name, and whether something is passed of which the names are not known
+-- whether something is passed under a name, and whether something is passed whose names are not known
 abbrev pub is_under : List ℕ → PassedVal → Bool
 is_under n (OneNamed p) = bytes_eq p.name n
 is_under n Whatever = false

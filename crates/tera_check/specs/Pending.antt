@@ -1,4 +1,4 @@
--- Parts of a tree that are to come, and calls that were found.
+-- Parts of a tree that are still to be taken, and the calls that were found.
 use Rattle.std.specs.Prelude.{List, [], ◌∷◌}
 use Rattle.std.specs.Borrow.{Bor}
 use Rattle.std.specs.List.{flat_map}

@@ -10,7 +10,7 @@ use Rattle.tera_check.specs.declared.registered.Registered.{Registered}
 use Rattle.tera_check.specs.declared.registered.Registry.{Registry}
 use Rattle.tera_check.specs.declared.registered.Registry.TheVariants as registries
 
--- which filters, tests and functions there may be
+-- the names that filters, tests and functions may have
 pub record RegisteredVal : Type 0 where
   pub filters : List ℕ → Bool
   pub tests : List ℕ → Bool
@@ -22,7 +22,7 @@ has r registries.Filters n = r.filters n
 has r registries.Tests n = r.tests n
 has r registries.Functions n = r.functions n || bytes_eq n (codes "super")
 
--- by lists: those that are listed; where a list is absent, any
+-- the listed names; if there is no list, any name
 abbrev pub is_listed : Option (List (List ℕ)) → List ℕ → Bool
 is_listed None n = true
 is_listed (Some names) n = list_any (λ name. bytes_eq name n) names

@@ -1,4 +1,4 @@
--- Values that do not count, since their keys are written again after them: the arguments of a call, and what a map has.
+-- Values that do not count, as their key comes again: in the arguments of a call, and in a map.
 use Rattle.std.specs.Prelude.{ℕ, ℤ, List, [], ◌∷◌, ◌++◌, true, false, cond, Option, None, Some, codes}
 use Rattle.std.specs.BTreeMap.{BTreeMap, get_by}
 use Rattle.std.specs.Borrow.{Bor}
@@ -21,7 +21,7 @@ use Rattle.tera_check.specs.declared.repeated.Following.{Following}
 use Rattle.tera_check.specs.declared.repeated.Holder.{Holder}
 use Rattle.tera_check.specs.declared.repeated.Holder.TheVariants as holders
 
--- the finding, with a note where the next value of the key is: whatever the component, and whatever is spread between
+-- the finding, with a note at the next value of the key; the component, and spreads in between, do not matter
 abbrev pub repeated_kind : Holder → Kind
 repeated_kind holders.Call = kinds.RepeatedArgument
 repeated_kind holders.Map = kinds.RepeatedKey
@@ -42,7 +42,7 @@ abbrev pub repeated_if : Holder → List ℕ → KeyVal → Span → Option Span
 repeated_if holder file key span None = []
 repeated_if holder file key span (Some next) = repeated holder file key span next ∷ []
 
--- where the first value is that is written under a key
+-- where the first value under a key is
 abbrev pub next_in : KeyVal → Entries → Option Span
 next_in key NoEntries = None
 next_in key (Entry k e es) = cond (key_eq k key) (Some (expr_span e)) (next_in key es)
@@ -54,7 +54,7 @@ repeated_findings holder file (Entry k e es) =
     repeated_findings holder file es ++ repeated_if holder file k (expr_span e) (next_in k es)
 repeated_findings holder file (SpreadEntry e es) = repeated_findings holder file es
 
--- the same of one entry, before others
+-- the same for one entry that is before others
 abbrev pub next_by_one : KeyVal → MapEntryOf Expr → Option Span → Option Span
 next_by_one key (entries.KeyValue k e) following = cond (key_eq (key_view k) key) (Some (expr_span e)) following
 next_by_one key (entries.Spread e) following = following

@@ -1,5 +1,5 @@
--- The rule `repeated-condition`: in the chain of an `if` and its `elif`s, a condition that one before it is too, apart
--- from places.
+-- The rule `repeated-condition`: in the chain of an `if` and its `elif`s, a condition that is the same as one before
+-- it, apart from places.
 use Rattle.std.specs.Prelude.{◌≡◌, ◌⊎◌, ℕ, List, [], ◌∷◌, Bool, true, false, if◌then◌else◌, Option, None, Some, String, codes, map, reverse}
 use Rattle.std.specs.declared.alloc.Global.{Global}
 use Rattle.std.specs.BTreeMap.{BTreeMap, get_by_text}
@@ -19,16 +19,16 @@ use Rattle.tera_check.specs.Findings.{NoteOf, FindingVal, FindingOf}
 use Rattle.tera_check.specs.declared.finding.Kind.TheVariants as kinds
 use Rattle.tera_check.specs.declared.repeated_conditions.Chain.{Chain}
 
--- The source text of a condition. Expressions of a source have one text where they are the same apart from places, and
--- nowhere else (`one_text` and `texts_tell_apart`, laws of `tera_source`). A call of a component with a body has none, and
--- is in no condition of a source.
+-- The source text of a condition. Expressions of a source have the same text exactly if they are the same apart from
+-- places (`one_text` and `texts_tell_apart`, laws of `tera_source`). A call of a component with a body has none, and is
+-- in no condition of a source.
 abbrev pub condition_text : Expr → Option (List ℕ)
 condition_text e = if has_body e then None else Some (written e free)
 
 abbrev pub has_text : List ℕ → Expr → Bool
 has_text text e = option_map_or (λ t. bytes_eq t text) (condition_text e) false
 
--- the first of some conditions that has the text, and that has the text of another one
+-- the first of some conditions that has this text, and the first that has the text of a condition
 abbrev pub first_of_text : Option (List ℕ) → List Expr → Option Expr
 first_of_text None es = None
 first_of_text (Some text) es = find (has_text text) es
@@ -60,7 +60,7 @@ abbrev pub repeated_if : List ℕ → Expr → Option Expr → List FindingVal
 repeated_if file e None = []
 repeated_if file e (Some again) = repeated_condition file e again ∷ []
 
--- of an `if`, or of an `elif`: where its condition comes again for the first time after it
+-- the finding for an `if` or an `elif`, where its condition comes again for the first time
 abbrev pub repeated_conditions : List ℕ → PartVal → List FindingVal
 repeated_conditions file (NodePart (If e body other)) = repeated_if file e (next_alike e (conditions_in other))
 repeated_conditions file _ = []
@@ -72,12 +72,12 @@ is_choice _ = false
 
 -- ---- a walk over a tree, which takes the `if`s of a chain one after the other
 
--- of each condition the next one that is the same
+-- for each condition the next one that is the same
 abbrev pub nexts : List Expr → List (Option Expr)
 nexts [] = []
 nexts (e ∷ es) = next_alike e es ∷ nexts es
 
--- of the conditions of a part that is an `if`; and of those after the first
+-- this for the conditions of a part that is an `if`; and for those after the first
 abbrev pub nexts_of : PartVal → List (Option Expr)
 nexts_of (NodePart n) = nexts (conditions_of n)
 nexts_of _ = []
@@ -96,7 +96,7 @@ kept chain = reverse (map seen_if chain.nexts.items)
 abbrev pub IsKept : List (Option Expr) → List (Option Expr) → Type 0
 IsKept those these = (those ≡ []) ⊎ (those ≡ these)
 
--- for the last of the parts that are to come
+-- this for the last of the parts that are still to be taken
 abbrev pub nexts_first : List PartVal → List (Option Expr)
 nexts_first [] = []
 nexts_first (p ∷ ps) = nexts_of p
@@ -104,7 +104,7 @@ nexts_first (p ∷ ps) = nexts_of p
 abbrev pub IsKeptFor : Chain → List PartVal → Type 0
 IsKeptFor chain ps = IsKept (kept chain) (nexts_first (reverse ps))
 
--- what is in a map of conditions, under a text that there may be
+-- what a map of conditions has under a text, if there is a text
 abbrev pub under_text : BTreeMap (String Global) (Bor Expression) → List ℕ → Option Expr
 under_text following text = seen_if (get_by_text following text)
 

@@ -1,4 +1,4 @@
--- The rules that look at one part of a tree by itself: what they find in it depends on nothing else.
+-- The rules that look at one part of a tree by itself: what they find there depends on nothing else.
 use Rattle.std.specs.Prelude.{ℕ, List, ◌++◌}
 use Rattle.std.specs.List.{flat_map}
 use Rattle.tera_tree.specs.Parts.{PartVal}
@@ -8,7 +8,7 @@ use Rattle.tera_check.specs.RepeatedConditions.{repeated_conditions}
 use Rattle.tera_check.specs.RepeatedKeys.{repeated_keys}
 use Rattle.tera_check.specs.Within.{parts_of}
 
--- what they find in a part, in the file of a name: a term for each rule
+-- what they find in a part, in the file of this name: a term for each rule
 abbrev pub part_findings : List ℕ → PartVal → List FindingVal
 part_findings file p = repeated_keys file p ++ repeated_conditions file p
 

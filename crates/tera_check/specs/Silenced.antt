@@ -28,7 +28,7 @@ silences_at i rule line = bytes_eq i.rule rule && covers i line
 abbrev pub silences : IgnoreVal → FindingVal → Bool
 silences i (FoundAs kind severity span text notes) = silences_at i (kind_name kind) span.start_line
 
--- some of the ignores do
+-- one of the ignores does
 abbrev pub is_silenced_at : List IgnoreVal → List ℕ → ℕ → Bool
 is_silenced_at is rule line = list_any (λ i. silences_at i rule line) is
 
@@ -45,11 +45,11 @@ abbrev pub is_undefined_kind : Kind → Bool
 is_undefined_kind kinds.UndefinedComponent = true
 is_undefined_kind _ = false
 
--- all findings of the kind are known, if the template has no fault; `open_text` where a text may define more components
+-- if the template has no fault, all findings of the kind are known; `open_text`: a text may define more components
 abbrev pub is_known_kind : Bool → Kind → Bool
 is_known_kind open_text kind = not (depends_on_others kind) && not (open_text && is_undefined_kind kind)
 
--- so an ignore can be reported: also one whose rule does not exist
+-- an ignore can be reported then, and also if its rule does not exist
 abbrev pub is_judged : Bool → List ℕ → Bool
 is_judged open_text rule = option_map_or (is_known_kind open_text) (kind_named rule) true
 
@@ -75,7 +75,7 @@ unused_ignore_text rule = if is_some (kind_named rule) then no_finding_text rule
 abbrev pub unused_ignore : IgnoreVal → FindingVal
 unused_ignore i = FindingOf kinds.UnusedIgnore i.span (unused_ignore_text i.rule) []
 
--- of a template without a fault, beside all that is found in its tree
+-- the findings in a template without a fault, from all that is found in its tree
 abbrev pub unused_among : Bool → List FindingVal → List IgnoreVal → List FindingVal
 unused_among open_text found is = map unused_ignore (filter (is_unused open_text found) is)
 

@@ -20,7 +20,7 @@ use Rattle.tera_check.specs.declared.registered.Registry.{Registry}
 use Rattle.tera_check.specs.declared.registered.Registry.TheVariants as registries
 use Rattle.tera_check.specs.declared.templates.Template.{Template}
 
--- the finding that one of a name is missing
+-- the finding that a name is not registered
 abbrev pub unknown_kind : Registry → Kind
 unknown_kind registries.Filters = kinds.UnknownFilter
 unknown_kind registries.Tests = kinds.UnknownTest
@@ -35,7 +35,7 @@ abbrev pub unknown_if : RegisteredVal → Registry → List ℕ → Span → Lis
 unknown_if r registry name span =
     if has r registry name then [] else FindingOf (unknown_kind registry) span (unknown_text registry name) [] ∷ []
 
--- what they find in a part
+-- what these rules find in a part
 abbrev pub unknown_in : RegisteredVal → PartVal → List FindingVal
 unknown_in r (ExpressionPart (Filter e name args span)) = unknown_if r registries.Filters name span
 unknown_in r (ExpressionPart (Test e name args span)) = unknown_if r registries.Tests name span
@@ -46,11 +46,11 @@ unknown_in r _ = []
 abbrev pub unknown_findings : RegisteredVal → Output → List FindingVal
 unknown_findings r o = flat_map (unknown_in r) (parts_of o)
 
--- what of that is due in a template, as what else is found in its tree
+-- what of that is due in a template, as for the other findings in its tree
 abbrev pub due_unknown : RegisteredVal → Template → List FindingVal
 due_unknown r t =
     option_map_or (λ o. filter (is_due false t) (unknown_findings r (output_view o))) (tree_of t) []
 
--- it is added to what is found in the first templates
+-- this is added to what is found in the first templates
 abbrev pub AreWithUnknown : RegisteredVal → List Template → ℕ → List Found → List Found → Type 0
 AreWithUnknown r = AreAdded (due_unknown r)

@@ -1,4 +1,4 @@
--- The parts of a tree at any depth: each part before what is in it, and these from the last to the first.
+-- The parts of a tree at any depth: each part before those inside it, and these from the last to the first.
 use Rattle.std.specs.Prelude.{List, [], ◌∷◌, ◌++◌}
 use Rattle.tera_ast.specs.Tree.{Expr, Const, Array, Map, Var, GetAttr, GetItem, Slice, Filter, Test, Ternary, ListComprehension, ComponentCall, FunctionCall, UnaryOperation, BinaryOperation}
 use Rattle.tera_ast.specs.Tree.{MaybeExpr, NoExpr, OneExpr, Filters, NoFilters, OneFilter, Args, NoArgs, Arg, Items, NoItems, Item, SpreadItem, Entries, NoEntries, Entry, SpreadEntry}
@@ -6,7 +6,7 @@ use Rattle.tera_ast.specs.Tree.{Stmt, Content, Shown, Set, BlockSet, Include, Bl
 use Rattle.tera_tree.specs.Parts.{PartVal, NodePart, ExpressionPart, top_parts}
 use Rattle.tera_tree.specs.Tree.{Output}
 
--- in an expression and in a node; and each of these with what is in it
+-- the parts in an expression and in a node; and each of these with the parts inside it
 abbrev mutual
   pub within : Expr → List PartVal
   within (Const v span) = []
@@ -66,11 +66,11 @@ abbrev mutual
   all_in_nodes NoNodes = []
   all_in_nodes (OneNode n ns) = all_in_nodes ns ++ (NodePart n ∷ within_node n)
 
--- an expression with what is in it
+-- an expression with the parts inside it
 abbrev pub all_in : Expr → List PartVal
 all_in e = ExpressionPart e ∷ within e
 
--- in a part, and all of some parts
+-- the parts inside a part, and some parts with those inside them
 abbrev pub within_part : PartVal → List PartVal
 within_part (NodePart n) = within_node n
 within_part (ExpressionPart e) = within e

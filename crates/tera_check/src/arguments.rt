@@ -1,4 +1,4 @@
-//! The arguments of a call, beside those that the component is defined with.
+//! The arguments of a call, compared with the parameters of the component.
 
 ghost use Rattle.std.specs.Prelude.{◌≡◌, [], ◌++◌, ◌&&◌, not, if◌then◌else◌, Some, map, string_bytes, IfOk, OnOk};
 ghost use Rattle.std.specs.BTreeSet.{contains_text};
@@ -19,8 +19,8 @@ use tera_parser::ast::ComponentArgument;
 use tera_parser::refusals::{missing_argument, unknown_arguments, wrong_type};
 use tera_parser::value::{Span, Value};
 
-/// Adds a finding for each argument that is passed and refused, at the place of its value, from the last to the first.
-/// Under a name that comes again the last counts. The answer is the names of all that is passed.
+/// Adds a finding for each argument that the component does not accept, at the place of its value, from the last to the
+/// first. If a name is passed more than once, its last value counts. The result is the names of all that is passed.
 pub(crate) fn push_refused(
     alloc: Global,
     findings: &mut Vec<Finding>,
@@ -74,7 +74,7 @@ fn push_named(
     push_remark(alloc, findings, known, named.span, remark)
 }
 
-// The constant, unless more is passed after, so that it may not be the value that counts.
+// The constant, unless a spread comes after it: that may pass another value, which counts then.
 fn counted<'a>(more: bool, named: &Named<'a>) -> Option<&'a Value>
     ensures { option_map (λ v. value_view v.now) result
         ≡ counted more (named_view named.now).constant }
@@ -82,7 +82,7 @@ fn counted<'a>(more: bool, named: &Named<'a>) -> Option<&'a Value>
     if more { None } else { named.constant }
 }
 
-/// Of what kind a finding about a call is, and what it says.
+/// The kind of a finding about a call, and its text.
 #[derive(Drop)]
 pub(crate) struct Remark {
     pub(crate) kind: Kind,
@@ -106,7 +106,7 @@ pub(crate) fn push_remark(
     }
 }
 
-// A finding about a call of the component, with a note that says where that is defined.
+// A finding about a call of the component, with a note at the component's definition.
 fn about(
     alloc: Global,
     known: &Known<'_>,
@@ -131,7 +131,8 @@ fn defined_here(alloc: Global, known: &Known<'_>) -> Result<Note, AllocError>
     })
 }
 
-// Why a value under the name is refused, if it is; of a value that is not a constant its type is not known.
+// Why the component does not accept a value under the name, if it does not. The type of a value is known only if it is
+// a constant.
 fn refusal(
     alloc: Global,
     known: &Known<'_>,
@@ -155,7 +156,7 @@ fn argument_of<'a>(known: &Known<'a>, name: &str) -> Option<&'a ComponentArgumen
     known.definition.kwargs.get(name)
 }
 
-// That the constant is of another type than the argument, if it is.
+// The remark that the constant has another type than the argument, if it has.
 fn refused_type(
     alloc: Global,
     name: &str,
@@ -193,7 +194,7 @@ fn wrong_value(
     }
 }
 
-// That the component has no argument of this name and takes no others.
+// The remark on a name that is none of the component's arguments, unless the component takes any others.
 fn refused_name(alloc: Global, known: &Known<'_>, name: &str) -> Result<Option<Remark>, AllocError>
     ensures { IfOk result (λ r. option_map remark_view r
         ≡ refused_name (definition_view known.now.definition.now) name.now) }
@@ -229,7 +230,7 @@ pub(crate) fn push_missing(
     Ok(())
 }
 
-// That nothing is passed for the argument, where something has to be.
+// The remark that nothing is passed for the argument, if something has to be.
 fn missed(
     alloc: Global,
     passed: &Names,

@@ -14,7 +14,7 @@ use std::alloc::{AllocError, Global};
 use std::collections::BTreeSet;
 use tera_parser::ast::{ComponentDefinition, Expression, Node, Part, Parts, push_nodes};
 
-/// The names of those of the components that never show their body.
+/// The names of the components that never show their body.
 pub(crate) fn hidden_bodies(
     alloc: Global,
     definitions: &Vec<ComponentDefinition>,
@@ -44,8 +44,8 @@ fn put_if_hidden(
     Ok(())
 }
 
-// Whether some part of the definition may show the body. One of more parts than a `u64` counts, which no memory holds, is
-// answered as an allocation failure.
+// Whether some part of the definition may show the body. A definition of more parts than a `u64` counts, which no
+// memory holds, gives an allocation failure.
 fn shows_body(alloc: Global, definition: &ComponentDefinition) -> Result<bool, AllocError>
     ensures { IfOk result (λ shows. shows ≡ shows_body (definition_view definition.now)) }
 {
@@ -64,7 +64,7 @@ fn shows_body(alloc: Global, definition: &ComponentDefinition) -> Result<bool, A
     Err(AllocError)
 }
 
-// Takes the part, after which those in it are to come. The answer is whether it may show the body by itself.
+// Puts the parts inside this one on the list. The result is whether this part by itself may show the body.
 #[tactic(auto, using(crate::proofs::BodiesLemmas::taken))]
 fn take<'a>(left: &mut Parts<'a>, part: Part<'a>) -> Result<bool, AllocError>
     ensures { IfOk result (λ shows. (shows || list_any may_show (all_parts (parts_view left.new.items)))
@@ -87,7 +87,7 @@ fn may_show(part: Part<'_>) -> bool
     }
 }
 
-/// Whether the body is white space alone.
+/// Whether the body is only white space.
 pub(crate) fn is_blank_body(body: &Vec<Node>) -> bool
     ensures { result ≡ is_blank_body (nodes_view body.now.items) }
 {

@@ -11,9 +11,9 @@ use tera_parser::ParserOutput;
 use tera_parser::ast::{ComponentCall, Expression, Part, Parts, top_parts};
 use tera_parser::value::Spanned;
 
-/// The calls of components in the tree, with a body or without: in the bodies of its definitions, and then in its
-/// nodes, each from left to right, a call after those that are in it. A tree of more parts than a `u64` counts, which
-/// no memory holds, is answered as an allocation failure.
+/// The calls of components in the tree, with a body or without: first those in the bodies of its definitions, then
+/// those in its nodes. Each list is from left to right, and a call comes after the calls inside it. A tree of more
+/// parts than a `u64` counts, which no memory holds, gives an allocation failure.
 pub fn calls_of(
     alloc: Global,
     output: &ParserOutput,
@@ -31,7 +31,7 @@ pub fn calls_of(
     Err(AllocError)
 }
 
-// From the last to the first.
+// The calls in reverse order.
 fn turned<'a>(calls: Vec<&'a Spanned<ComponentCall>>) -> Vec<&'a Spanned<ComponentCall>>
     ensures { result.items ≡ reverse calls.entry.items }
 {
@@ -40,7 +40,7 @@ fn turned<'a>(calls: Vec<&'a Spanned<ComponentCall>>) -> Vec<&'a Spanned<Compone
     calls
 }
 
-// Takes the part. What was found is from right to left.
+// Adds the part if it is a call, and puts the parts inside it on the list. The calls are from right to left.
 #[tactic(auto, using(crate::proofs::Pending::taken))]
 fn take<'a>(
     calls: &mut Vec<&'a Spanned<ComponentCall>>,
@@ -55,7 +55,7 @@ fn take<'a>(
     part.push_inside(left)
 }
 
-// The part by itself, if it is a call.
+// Adds the part if it is a call.
 #[tactic(auto, using(crate::proofs::Pending::found_more, crate::proofs::Pending::itself_call))]
 fn push_itself<'a>(
     calls: &mut Vec<&'a Spanned<ComponentCall>>,

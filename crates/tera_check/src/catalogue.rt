@@ -16,21 +16,22 @@ use tera_parser::value::Span;
 #[derive(Drop)]
 pub struct Known<'a> {
     pub definition: &'a ComponentDefinition,
-    /// The number of its template among all.
+    /// The number of its template among all templates.
     pub template: usize,
     pub file: &'a str,
-    /// Where its name is there: the last part.
+    /// Where its name is in that file: the last part of the name.
     pub span: Span,
-    /// Where its parameters are there, by their names.
+    /// Where its parameters are in that file, by their names.
     pub parameters: Option<&'a BTreeMap<String, Span>>,
     /// Whether it may show the body that it is given.
     pub shows_body: bool,
 }
 
-/// The components that some templates define, by their names. Of components with one name the first counts.
+/// The components that some templates define, by their names. If several have one name, it is the first.
 pub type Catalogue<'a> = BTreeMap<String, Known<'a>>;
 
-/// The components that the templates define. One with a fault defines those of [`tree_of`].
+/// The components that the templates define. A template with a fault defines those of its tree ([`tree_of`]), if it has
+/// one.
 pub fn catalogue_of<'a>(
     alloc: Global,
     templates: &'a Vec<Template>,
@@ -61,7 +62,7 @@ pub fn add_definitions<'a>(
     Ok(())
 }
 
-/// What is known of the template's component of a number, which has this definition; the template has a number too.
+/// What is known of a component: `number` is the number of its template, and `at` the number of the definition there.
 #[tactic(auto, using(crate::proofs::CatalogueLemmas::parameters_after))]
 pub fn known_at<'a>(
     number: usize,

@@ -1,4 +1,4 @@
-//! What a fault comes of, where its text and its place do not say that.
+//! The cause of a fault, where its text and its place do not say it.
 
 ghost use Rattle.std.specs.Prelude.{◌≡◌, IfSome};
 ghost use Rattle.tera_check.specs.FaultFindings.{IsWordOf, start_of};
@@ -33,8 +33,8 @@ pub(crate) enum Says {
     Nothing,
 }
 
-/// The ends that were written after the source, with the heads that they close. None are looked for where no fault
-/// wants them.
+/// The end tags that were written after the source, with the heads that they close. If no fault has an edit there, they
+/// are not looked for.
 pub(crate) fn ends_of(alloc: Global, mended: &Mended) -> Result<Vec<Closed>, AllocError> {
     let len = mended.source.len();
     let mut faults = mended.faults.iter();
@@ -45,7 +45,7 @@ pub(crate) fn ends_of(alloc: Global, mended: &Mended) -> Result<Vec<Closed>, All
     }
 }
 
-/// What the fault comes of: by the first of its edits that says it. Where none does, nothing, and the word is none, at
+/// The cause of the fault, by the first of its edits that says one. If none does, `Says::Nothing` of an empty word at
 /// the end of the source.
 pub(crate) fn cause_of<'m>(source: &'m str, ends: &Vec<Closed>, fault: &Fault) -> Cause<'m>
     ensures { IsWordOf source.now result }
@@ -88,7 +88,7 @@ pub(crate) fn start_of(fault: &Fault) -> usize
     }
 }
 
-// What a fault at this byte comes of, for which this is written.
+// The cause of a fault at this byte, by one of its edits.
 fn cause_in<'m>(source: &'m str, ends: &Vec<Closed>, edit: &Edit, at: usize) -> Option<Cause<'m>>
     ensures { IfSome result (IsWordOf source.now) }
 {
@@ -105,7 +105,7 @@ fn cause_in<'m>(source: &'m str, ends: &Vec<Closed>, edit: &Edit, at: usize) -> 
     cause_by(source, word, says)
 }
 
-// What is said of a word with this role whose tag became another.
+// What is said of a word with this role, if an edit begins with its tag.
 fn said_of_tag(role: Role, is_inside: bool, is_closed: bool) -> Option<Says> {
     match role {
         Role::End => Some(Says::ClosesNothing),
@@ -117,7 +117,7 @@ fn said_of_tag(role: Role, is_inside: bool, is_closed: bool) -> Option<Says> {
     }
 }
 
-// Where a tag stays one of its kind: that it has no end, if the fault is after it.
+// If an edit begins in a tag, at its word: that the tag has no end, if none is in the edit and the fault is after it.
 fn cause_in_tag(source: &str, at: usize, end: usize, is_inside: bool) -> Option<Cause<'_>>
     ensures { IfSome result (IsWordOf source.now) }
 {
@@ -129,7 +129,7 @@ fn cause_in_tag(source: &str, at: usize, end: usize, is_inside: bool) -> Option<
     cause_by(source, word, Says::NoEnd)
 }
 
-// The start of the tag whose word begins there, or before white space there.
+// The start of the tag in which only white space and a dash may be before this byte.
 fn start_of_tag(source: &str, at: usize) -> Option<usize> {
     let before = source.get(..at)?.trim_end();
     let before = before.strip_suffix('-').unwrap_or(before);

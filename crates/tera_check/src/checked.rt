@@ -1,4 +1,4 @@
-//! What is found in a template beside others.
+//! What is found in one template among others.
 
 ghost use Rattle.std.specs.Prelude.{◌≡◌, ◌∷◌, [], ◌++◌, List, map, Some, IfOk, OnOk};
 ghost use Rattle.std.specs.List.{flat_map};
@@ -38,11 +38,15 @@ use tera_parser::ParserOutput;
 use tera_parser::ast::ComponentCall;
 use tera_parser::value::{Error, Span, Spanned};
 
-/// What is found in the template of this number, in the order of the places: its faults; and in its tree, or that of what
-/// is left of it, the components that a template before it defines too, the parameters that are never used, and what is
-/// found of its calls, except what its ignores silence; and the ignores that silence nothing. Nothing is found that comes
-/// of what was written for a fault. `is_open` says that a template may define more components than the catalogue has
-/// ([`crate::is_open`]).
+/// What is found in the template of this number, in the order of the places:
+/// - its faults;
+/// - in its tree, or in the tree that it was mended to: components that a template before it defines too, parameters
+///   that are never used, and the findings of its calls and of its parts by themselves, except what its ignores
+///   silence;
+/// - the ignores that silence nothing.
+///
+/// Nothing is found that comes from what was written for a fault. `is_open` says that a template may define more
+/// components than the catalogue has ([`crate::is_open`]).
 pub fn findings_of(
     alloc: Global,
     catalogue: &Catalogue<'_>,
@@ -61,7 +65,7 @@ pub fn findings_of(
     Ok(findings)
 }
 
-// Adds what is found in the tree of the template and is due, and its ignores that silence nothing.
+// Adds the findings in the template's tree that are due, and its ignores that silence nothing.
 fn push_all_due(
     alloc: Global,
     findings: &mut Vec<Finding>,
@@ -83,7 +87,7 @@ fn push_all_due(
     }
 }
 
-/// The faults of a template, in the order of the places: those that are known of it.
+/// The known faults of a template, in the order of their places.
 pub fn faults_of(alloc: Global, template: &Template) -> Result<Vec<Finding>, AllocError>
     ensures ordered { IfOk result (λ v. IsInOrder v.items) }
     ensures faults { IfOk result (λ v. AreFaultsOf template.now (map finding_view v.items)) }
@@ -150,8 +154,8 @@ fn order_of(finding: &Finding) -> (usize, usize)
     (place.line, place.column)
 }
 
-/// The status of a program that checked some templates: 2 where one of them could not be read, or else 1 where an error
-/// was found. Warnings leave it 0.
+/// The status of a program that checked some templates: 2 if one of them could not be read, else 1 if an error was
+/// found, else 0. Warnings do not change it.
 pub fn status(errors: bool, unread: bool) -> u8
     ensures { result ≡ status_of errors unread }
 {
@@ -164,7 +168,7 @@ pub fn status(errors: bool, unread: bool) -> u8
     }
 }
 
-// Adds a finding for each component of which one is in another template.
+// Adds a finding for each component that another template defines first.
 fn push_all_again(
     alloc: Global,
     findings: &mut Vec<Finding>,

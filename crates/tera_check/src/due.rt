@@ -1,4 +1,4 @@
-//! Which findings of a tree are due, where some of its text was written for faults.
+//! Which findings of a tree are due, if a part of its text was written for faults.
 
 ghost use Rattle.std.specs.Prelude.{◌≡◌, ◌∷◌, [], ◌++◌, ◌&&◌, map, nat_le, nat_lt, OnOk};
 ghost use Rattle.std.specs.BTreeSet.{keys};
@@ -18,7 +18,7 @@ use std::alloc::{AllocError, Global};
 use std::collections::BTreeSet;
 use tera_parser::value::Span;
 
-/// Adds those of the findings that are due: not those that an ignore of the template silences. `is_open` says that a text
+/// Adds the findings that are due; those that an ignore of the template silences are not. `is_open` says that a text
 /// may define more components than are known.
 pub fn push_due(
     alloc: Global,
@@ -75,7 +75,7 @@ fn is_due_in(mended: &Option<Mended>, finding: &Finding) -> bool
     }
 }
 
-// Whether an ignore of the template silences the finding. These are the lines that they cover.
+// Whether an ignore of the template silences the finding; `silenced` has the lines that the ignores cover.
 fn is_silenced(template: &Template, silenced: &Lines, finding: &Finding) -> bool
     requires { AreLinesOf (is_silenced_at (ignores_view template.now.ignores.items)) silenced.now }
     ensures { result ≡ is_silenced template.now (finding_view finding.now) }
@@ -91,7 +91,7 @@ fn is_written(mended: &Mended, finding: &Finding) -> bool
     is_same_part(mended.source.as_str(), mended.text.as_str(), start, end)
 }
 
-/// Whether two texts have the same between these bytes.
+/// Whether two texts have the same bytes from `start` on and before `end`.
 pub(crate) fn is_same_part(one: &str, other: &str, start: usize, end: usize) -> bool
     ensures { result ≡ is_same_part one.now other.now (start, end) }
 {
@@ -104,7 +104,8 @@ pub(crate) fn is_same_part(one: &str, other: &str, start: usize, end: usize) -> 
     part == there
 }
 
-// The first byte that the finding is about, and the one after it: of a call its `<`, as its body may have faults.
+// The first byte that the finding is about, and the byte after the last. For a call it is only its `<`, as its body may
+// have faults.
 fn mark_of(finding: &Finding) -> (usize, usize)
     ensures { result ≡ mark_of (finding_view finding.now) }
 {
@@ -117,15 +118,15 @@ fn mark_of(finding: &Finding) -> (usize, usize)
     }
 }
 
-// Whether something that was written over in the definition may name the parameter that is found to be unused.
+// Whether something that was overwritten in the definition may name the parameter that is found to be unused.
 fn is_doubtful(mended: &Mended, finding: &Finding) -> bool
     ensures { result ≡ is_doubtful mended.now (finding_view finding.now) }
 {
     finding.kind == Kind::UnusedParameter && may_name(mended, &finding.span)
 }
 
-// Whether something that was written over in the definition may name the parameter at this span: a word, an `include`, the
-// variable that shows all others, or a call.
+// Whether something that was overwritten in the definition may name the parameter at this span: a word, an `include`,
+// the variable that shows all others, or a call.
 fn may_name(mended: &Mended, span: &Span) -> bool
     ensures { result ≡ may_name mended.now span.now }
 {
@@ -164,7 +165,7 @@ fn is_boundary(text: &str, at: usize) -> bool
     text.is_char_boundary(at)
 }
 
-// Where the definition ends in which this byte is.
+// Where the definition ends that this byte is in.
 fn end_of_definition(mended: &Mended, start: usize) -> usize
     ensures { result ≡ end_of_definition mended.now start }
 {

@@ -21,7 +21,7 @@ use std::alloc::{AllocError, Global};
 use tera_mend::Fault;
 use tera_parser::value::Span;
 
-// A fault, and what it comes of.
+// A fault and its cause.
 #[derive(Clone, Copy)]
 struct Met<'m> {
     fault: &'m Fault,
@@ -29,8 +29,8 @@ struct Met<'m> {
     is_last: bool,
 }
 
-/// The findings of its faults in the file of this name. After the notes that the parser has come a hint, what the fault
-/// comes of, and after the last fault that there are more.
+/// The findings of the faults of a source in the file of this name. The notes of the parser are followed by a hint, if
+/// there is one, and by the cause. The last finding also has a note if there are more faults.
 pub(crate) fn findings_of_mended(
     alloc: Global,
     file: &str,
@@ -80,7 +80,7 @@ fn each_met<'m>(
     Ok(all)
 }
 
-// The findings of the faults, of which these are not all, if so.
+// The findings of the faults; `is_cut` says that there are more.
 fn findings_in(
     alloc: Global,
     file: &str,
@@ -129,8 +129,8 @@ fn place_of(source: &str, cause: &Cause<'_>, walk: Walk) -> Span
     walk.span_to(walk.to(source, end))
 }
 
-// The finding of a fault, with its cause at this place. That of a tag without an end is at the tag, with a note where the
-// fault was met.
+// The finding of a fault, with its cause at this place. If a tag has no end, the finding is at the tag, and a note is
+// where the parser met the fault.
 fn with_cause(
     alloc: Global,
     file: &str,
@@ -155,8 +155,8 @@ fn with_cause(
     Ok(finding)
 }
 
-// Where a fault is reported: at the place of its cause, where it is at the end of the source or after it, or its tag has
-// no end; else where it is.
+// Where a fault is reported: at its cause if the fault is at the end of the source or after it, or if a tag has no end;
+// else at its own place.
 fn span_with(source: &str, at: &Span, says: Says, place: &Span) -> Span
     ensures { result ≡ span_with source.now at.now says place.now }
 {
@@ -175,7 +175,7 @@ fn hint_for(source: &str, finding: &Finding) -> Option<&'static str>
     hint_in(finding.message.as_str(), before, there)
 }
 
-// That there are more faults, if so.
+// The text that there are more faults, if there are.
 fn more_if(is_more: bool) -> Option<&'static str>
     ensures { option_map (λ t. t.now) result ≡ more_if is_more }
 {
@@ -186,7 +186,7 @@ fn more_if(is_more: bool) -> Option<&'static str>
     }
 }
 
-// Adds a note that says what a fault at this span comes of.
+// Adds a note with the cause of a fault at this span.
 fn push_cause(
     alloc: Global,
     notes: &mut Vec<Note>,

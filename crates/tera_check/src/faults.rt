@@ -13,9 +13,9 @@ use std::alloc::{AllocError, Global};
 use tera_parser::value;
 use tera_parser::value::{Error, ErrorKind, ReportError, Span};
 
-/// The finding of a fault in the file of this name: its text and its notes, each with its span, and after these a note
-/// with a hint if its text calls for one; a text without a place is where the file begins. That an allocation failed is
-/// not a finding.
+/// The finding of a fault in the file of this name: its text, and its notes, each with its span, followed by a note
+/// with a hint if its text calls for one. A fault without a place is at the start of the file. An allocation failure is
+/// not a finding, but an error.
 pub fn finding_of_fault(alloc: Global, file: &str, error: &Error) -> Result<Finding, AllocError>
     ensures { IfOk result (λ f. IsOfError file.now (error_view error.now) (finding_view f)) }
 {

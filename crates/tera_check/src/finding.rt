@@ -13,14 +13,14 @@ pub struct Place {
     pub column: usize,
 }
 
-/// Of what kind a finding is.
+/// The kind of a finding.
 #[derive(Clone, Copy, Debug, PartialEq, Eq)]
 pub enum Kind {
     /// The fault of a template.
     Fault,
     /// A call of a component that no template defines.
     UndefinedComponent,
-    /// An argument that has to be given is not.
+    /// An argument that has to be given, and is not.
     MissingArgument,
     /// An argument that the component does not have.
     UnknownArgument,
@@ -38,19 +38,19 @@ pub enum Kind {
     DefinedAgain,
     /// A value whose key is given again in the same map, so that it does not count.
     RepeatedKey,
-    /// A condition of an `if` or an `elif` that one before it in the chain is too.
+    /// A condition of an `if` or an `elif` that is the same as one before it in the chain.
     RepeatedCondition,
-    /// A rule in a comment that silences findings of it, where there are none.
+    /// A rule that a comment names, though it silences no finding of the rule.
     UnusedIgnore,
-    /// A name that a template extends or includes, and that no template has.
+    /// A name that a template extends or includes, but that no template has.
     MissingTemplate,
-    /// A template that is reached again by what it extends.
+    /// A template that extends itself, by way of the templates that it extends.
     CircularExtends,
-    /// An include from which its template is reached again.
+    /// An include that leads back to its own template.
     CircularInclude,
-    /// A block at the top of a template, that no template has that it extends.
+    /// A block at the top of a template that none of the templates that it extends has.
     UndefinedBlock,
-    /// A `super()` in a block that no template has that this one extends, or in none.
+    /// A `super()` outside of a block, or in a block that none of the templates that this one extends has.
     SuperWithoutParent,
     /// A filter that the program does not have.
     UnknownFilter,
@@ -85,16 +85,16 @@ pub const KINDS: [Kind; 21] = [
     Kind::UnknownFunction,
 ];
 
-/// How grave a finding is.
+/// The severity of a finding.
 #[derive(Clone, Copy, Debug, PartialEq, Eq)]
 pub enum Severity {
-    /// The template, or a call in it, is refused.
+    /// The parser or Tera does not accept the template, or a call in it.
     Error,
-    /// It is taken, but it may not be what was meant.
+    /// It is accepted, but it may not be what was meant.
     Warning,
 }
 
-/// What is found in a template, the span there that it is about, and what explains it.
+/// What is found in a template: the span that it is about, its text, and notes that explain it.
 #[derive(Debug, Drop)]
 pub struct Finding {
     pub kind: Kind,
@@ -104,7 +104,7 @@ pub struct Finding {
     pub notes: Vec<Note>,
 }
 
-/// What explains a finding, by a span of whatever file.
+/// A note that explains a finding, at a span of any file.
 #[derive(Debug, Drop)]
 pub struct Note {
     pub file: String,
@@ -177,7 +177,7 @@ impl Kind {
         }
     }
 
-    /// How grave a finding of the kind is, unless another severity is set for it.
+    /// The severity of findings of the kind, unless another one is set for it.
     pub fn severity(self) -> Severity
         ensures { result ≡ severity_of self }
     {
@@ -206,8 +206,8 @@ impl Kind {
         }
     }
 
-    /// What findings of the kind count for, unless something else is set. Components that no template calls are not
-    /// reported, as the program may call these.
+    /// What findings of the kind count for, unless something else is set. Unused components are not reported, as the
+    /// program may call them.
     pub fn default_level(self) -> Option<Severity>
         ensures { result ≡ default_level self }
     {
@@ -247,7 +247,7 @@ impl Kind {
         }
     }
 
-    /// What lines call a finding of the kind that is so grave, as `error[missing-argument]`.
+    /// How lines of text name a finding of this kind and severity, as `error[missing-argument]`.
     pub fn label(self, alloc: Global, severity: Severity) -> Result<String, AllocError>
         ensures { IfOk result (λ label. string_bytes label ≡ label_of self severity) }
     {
@@ -260,7 +260,7 @@ impl Severity {
     ghost use Rattle.std.specs.Prelude.{◌≡◌};
     ghost use Rattle.tera_check.specs.Findings.{severity_name};
 
-    /// The word for it, as lines say it.
+    /// The word for it in lines of text.
     pub fn name(self) -> &'static str
         ensures { result.now ≡ severity_name self }
     {
@@ -282,7 +282,7 @@ impl Finding {
         Place::of(&self.span)
     }
 
-    /// A finding without notes, as grave as its kind is.
+    /// A finding without notes, with the severity of its kind.
     pub fn new(alloc: Global, kind: Kind, span: &Span, message: String) -> Finding
         ensures { finding_view result ≡ FindingOf kind span.now (string_bytes message) [] }
     {

@@ -34,8 +34,8 @@ impl<'a> Found<'a> {
     }
 }
 
-/// What is found in each of the templates, in their order, over the components that all of them define. Of those after the
-/// first `checked`, which are the library, their faults alone are found.
+/// What is found in each of the templates, in their order, over the components that all of them define. Those after the
+/// first `checked` are the library: only their faults are found.
 pub fn all_found<'a>(
     alloc: Global,
     templates: &'a Vec<Template>,

@@ -1,11 +1,11 @@
-//! What to write in the place of what has a fault.
+//! Hints for faults: what to write instead.
 
 ghost use Rattle.std.specs.Prelude.{◌≡◌, take, drop};
 ghost use Rattle.std.specs.Option.{option_map};
 ghost use Rattle.tera_check.specs.Hints.{blanks_in, hint_for_braces, hint_for_else, hint_for_mark, hint_for_string, hint_for_tag, hint_in, is_known, is_of_macros, is_of_word, letters_in, without_blanks, without_dash, word_of};
 
-/// The hint for a fault with this message, of which the source has `before` before it, and `there` from its first byte
-/// on.
+/// The hint for a fault with this message. `before` is the source before the fault, and `there` the source from its
+/// first byte on.
 pub(crate) fn hint_in(message: &str, before: &str, there: &str) -> Option<&'static str>
     ensures { option_map (λ h. h.now) result ≡ hint_in message.now before.now there.now }
 {
@@ -27,7 +27,7 @@ pub(crate) fn hint_in(message: &str, before: &str, there: &str) -> Option<&'stat
     None
 }
 
-// Of a tag whose word is none.
+// For a tag whose word is not one of a tag.
 fn hint_for_tag(word: &[u8]) -> Option<&'static str>
     ensures { option_map (λ h. h.now) result ≡ hint_for_tag word.now }
 {
@@ -44,7 +44,7 @@ fn hint_for_tag(word: &[u8]) -> Option<&'static str>
     )
 }
 
-// Whether there is no word, or it is that of a tag that may not be there.
+// Whether there is no word, or it is the word of a tag that may not be there.
 fn is_known(word: &[u8]) -> bool
     ensures { result ≡ is_known word.now }
 {
@@ -92,7 +92,7 @@ fn is_of_word(byte: u8) -> bool
     byte.is_ascii_alphabetic() || byte == b'_'
 }
 
-// Of an argument without its name.
+// For an argument without its name.
 fn hint_for_string(before: &str) -> Option<&'static str>
     ensures { option_map (λ h. h.now) result ≡ hint_for_string before.now }
 {
@@ -104,7 +104,7 @@ fn hint_for_string(before: &str) -> Option<&'static str>
     }
 }
 
-// Of an `if` after `else`.
+// For an `if` after `else`.
 fn hint_for_else(before: &str, there: &str) -> Option<&'static str>
     ensures { option_map (λ h. h.now) result ≡ hint_for_else before.now there.now }
 {
@@ -115,7 +115,7 @@ fn hint_for_else(before: &str, there: &str) -> Option<&'static str>
     }
 }
 
-// Of a byte order mark before `extends`.
+// For a byte order mark before `extends`.
 fn hint_for_mark(before: &str) -> Option<&'static str>
     ensures { option_map (λ h. h.now) result ≡ hint_for_mark before.now }
 {
@@ -128,7 +128,7 @@ fn hint_for_mark(before: &str) -> Option<&'static str>
     }
 }
 
-// Of two braces that were meant to end maps.
+// For two braces that were meant to end maps.
 fn hint_for_braces(there: &[u8]) -> Option<&'static str>
     ensures { option_map (λ h. h.now) result ≡ hint_for_braces there.now }
 {

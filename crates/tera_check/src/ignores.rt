@@ -13,19 +13,19 @@ use tera_parser::value::{ErrorKind, Span};
 /// A rule that a comment silences.
 #[derive(Debug, Drop)]
 pub struct Ignore {
-    /// The word for the rule, as the comment has it.
+    /// The name of the rule, as the comment has it.
     pub rule: String,
     /// Where the comment is.
     pub span: Span,
-    /// Whether nothing else is on its lines. Then it is about the next line too.
+    /// Whether nothing else is on its lines. Then it covers the next line too.
     pub alone: bool,
 }
 
-// What a comment begins with that silences findings.
+// The word with which a comment begins that silences findings.
 const WORD: &str = "tera-ignore:";
 
-/// The rules that the comments of the text silence, between these markers: all of them, up to a lexical fault. A text that
-/// does not have the word is not read.
+/// The rules that the comments of the text silence, between these markers, up to the first lexical fault. If the text
+/// does not have the word, its tokens are not read.
 pub(crate) fn ignores_of(
     alloc: Global,
     text: &str,
@@ -79,7 +79,7 @@ fn ignores_in(
     Ok(ignores)
 }
 
-// Adds those of the token at this span, which may be a comment.
+// Adds the ignores of the token at this span, which may be a comment.
 fn push_ignores(
     alloc: Global,
     ignores: &mut Vec<Ignore>,
@@ -96,7 +96,7 @@ fn push_ignores(
     }
 }
 
-// The rules that the comment at the span names, if it is one that names rules.
+// The text after `tera-ignore:` in the comment at the span, if the token there is such a comment.
 fn rules_at<'t>(marks: Comments<'_>, text: &'t str, span: &Span) -> Option<&'t str>
     ensures { option_map (λ r. r.now) result
         ≡ rules_at marks.entry.start.now marks.entry.end.now text.now span.now }
@@ -123,7 +123,7 @@ fn without_dashes(inside: &str) -> &str
     begun.strip_suffix("-").unwrap_or(begun)
 }
 
-// Adds these rules, between which commas are.
+// Adds these rules, which commas separate.
 fn push_rules(
     alloc: Global,
     ignores: &mut Vec<Ignore>,

@@ -22,7 +22,7 @@ use std::alloc::{AllocError, Global};
 use tera_parser::ast::{ComponentCall, MapEntry, Node};
 use tera_parser::value::{Span, Spanned};
 
-/// Adds what is found in the call, of what is known under its name; the call is in the file.
+/// Adds what is found in a call in the file. `known` is the component of its name, if there is one.
 pub(crate) fn push_call(
     alloc: Global,
     findings: &mut Vec<Finding>,
@@ -64,7 +64,7 @@ fn push_unused_body(
     }
 }
 
-// That the component never shows the body, unless that is white space alone.
+// The remark that the component never shows the body, if it does not, and if the body is not only white space.
 fn unused_body(
     alloc: Global,
     known: &Known<'_>,

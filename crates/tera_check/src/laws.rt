@@ -20,9 +20,9 @@ ghost use Rattle.tera_check.specs.declared.finding.Kind.TheVariants.{UnusedParam
 ghost use Rattle.tera_check.specs.declared.mended.Mended.{Mended};
 ghost use Rattle.tera_check.specs.declared.templates.Template.{Template};
 
-/// What is found in a tree is by what is known under the names that it defines and calls: of each component its name,
-/// its parameters, its file and its span there, and whether it is in this template, whatever the number of that is. The
-/// body of a component that is known under a name, and what is known under other names, have no part in it.
+/// What is found in a tree depends on what is known under the names that it defines and calls: the name of each
+/// component, its parameters, its file and its span there, whether it is in this template, whatever the number of that
+/// is, and whether it may show its body. All else of its body, and what is known under other names, have no part in it.
 pub fn by_names()
     ensures { (known others : List ℕ → Option KnownVal) (number other : ℕ) (t : Template)
         (o : Output) → AgreeOn (names_in o) number other known others →
@@ -34,8 +34,9 @@ pub fn floats_have_a_hint()
     ensures { (b : ℕ) (bs more : List ℕ) → hint_of (fault_text (Float b bs more)) ≡ Some float_hint }
 {}
 
-/// Of a template without a fault all that is found in its tree is due, except what its ignores silence, where no text may
-/// define more components than are known; and its ignores that silence nothing of it. So without ignores it is all.
+/// If a template has no fault, and no text may define more components than are known, then all that is found in its
+/// tree is due, except what its ignores silence; its ignores that silence nothing there are due too. Without ignores it
+/// is all.
 pub fn whole_texts_are_checked_whole()
     ensures silenced { (known : List ℕ → Option KnownVal) (number : ℕ) (t : Template)
         (o : ParserOutput) → t.parsed ≡ Ok o → t.mended ≡ None →
@@ -53,8 +54,8 @@ pub fn none_is_undefined()
         Contains (due_findings known true number t) f → is_undefined f ≡ false }
 {}
 
-/// What a due finding in a text with faults is about was written by somebody: the source of the template has it, at the
-/// same line, column and byte.
+/// What a due finding in a text with faults is about was not written for a fault: the source of the template has it, at
+/// the same line, column and byte.
 pub fn due_findings_are_written()
     ensures { (known : List ℕ → Option KnownVal) (open_text : Bool) (number : ℕ) (t : Template)
         (file source : List ℕ) (most : ℕ) (m : Mended) (f : FindingVal) →

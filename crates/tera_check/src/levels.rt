@@ -6,21 +6,21 @@ ghost use Rattle.tera_check.specs.Levels.{AreReportedOf, at_level, has_rule, is_
 use crate::finding::{Finding, Kind, Severity};
 use crate::found::Found;
 
-/// What a rule is set to. With no level its findings are off.
+/// What a rule is set to. Without a level its findings are off.
 #[derive(Clone, Copy, Debug)]
 pub struct RuleLevel<'a> {
     pub rule: &'a str,
     pub level: Option<Severity>,
 }
 
-/// What the findings of each rule count for, by what is asked.
+/// What the findings of each rule count for, by the settings.
 #[derive(Clone, Copy, Debug)]
 pub struct Levels<'b, 'a> {
-    /// Only these rules, if they are given. They are on, also if they are set to be off.
+    /// Only these rules are on, if they are given, even if they are set to be off.
     pub select: Option<&'b [&'a str]>,
-    /// All but these.
+    /// These rules are off.
     pub ignore: Option<&'b [&'a str]>,
-    /// What rules are set to. All others count for what [`Kind::default_level`] says.
+    /// What rules are set to. All others have the level [`Kind::default_level`].
     pub set: &'b [RuleLevel<'a>],
 }
 
@@ -28,7 +28,7 @@ impl<'b, 'a> Levels<'b, 'a> {
     ghost use Rattle.std.specs.Prelude.{◌≡◌, is_some};
     ghost use Rattle.tera_check.specs.Levels.{is_ignored, level_of, selected};
 
-    /// What findings of the kind count for, unless they are off. Faults are as grave as they are, whatever is asked.
+    /// The severity of findings of the kind, or none if they are off. Faults are always errors.
     pub fn level(self, kind: Kind) -> Option<Severity>
         ensures { result ≡ level_of self.entry kind }
     {
@@ -80,7 +80,7 @@ fn has_rule(rules: &[&str], kind: Kind) -> bool
     rules.contains(&kind.name())
 }
 
-// What findings of the kind count for if these rules are selected, by what they are set to.
+// The level of findings of the kind if these rules are selected; `set` is what the rule is set to.
 fn selected_by(rules: &[&str], kind: Kind, set: Option<Severity>) -> Option<Severity>
     ensures { result ≡ selected_by rules.now kind set }
 {
@@ -91,7 +91,7 @@ fn selected_by(rules: &[&str], kind: Kind, set: Option<Severity>) -> Option<Seve
     }
 }
 
-// What findings of the kind count for by what rules are set to.
+// The level of findings of the kind, by what the rules are set to.
 fn set_level(set: &[RuleLevel<'_>], kind: Kind) -> Option<Severity>
     ensures { result ≡ set_level set.now kind }
 {
@@ -103,7 +103,7 @@ fn set_level(set: &[RuleLevel<'_>], kind: Kind) -> Option<Severity>
     kind.default_level()
 }
 
-/// Leaves of what is found in each file the findings that are not off, each as grave as its rule counts for.
+/// Keeps the findings that are not off, each with the severity that its rule has.
 pub fn leave_reported(all: &mut Vec<Found<'_>>, levels: Levels<'_, '_>)
     ensures { AreReportedOf (level_of levels.entry) all.old.items all.new.items }
 {

@@ -1,21 +1,21 @@
-//! A checker of templates: the fault of each, and over all of them together how components are defined and called.
+//! A checker of templates: the faults of each, and over all of them together how components are defined and called.
 //!
-//! It takes templates that were read. It finds the fault of each (`IsOfError`), or what is wrong in its tree
-//! (`tree_findings`), and writes findings as objects of JSON (`object_of`); `tera_report` writes them as text. It depends
-//! on `tera_parser`, and its code names nothing below it; of the kit it uses `json`.
+//! It takes templates that were read. It finds the faults of each (`IsOfError`) and what is wrong in its tree
+//! (`tree_findings`), and writes findings as objects of JSON (`object_of`); `tera_report` writes them as text. It
+//! depends on `tera_parser`, and its code names nothing below it; of the kit it uses `json`.
 //!
 //! In the order of reading: specs `Findings`, `Calls`, `Passed`, `Repeated`, `Judged`, `Parameters`, `Within`, `Rules`,
 //! `Named`, `OrderAndStatus`, `Objects`, `Faults`, `Alike`; `templates`, which reads, `spans`, and `parents` (specs
 //! `Parents`); `mended`, what a source with faults is read as (specs `Mended`), and `lost`, its words (specs `Lost`);
-//! `ignores`, the comments that silence findings (specs `Boundaries`, `Ignores`); `catalogue`; `calls`, over the parts of
-//! a tree (specs `Pending`); `bodies`, of calls, and what shows them (specs `Bodies`); `repeated`, `passed`, `arguments`
-//! and `judged`, of one call; `parameters`, of one component (specs `Scopes`); `rules`, of each part by itself, with `repeated_keys` and `repeated_conditions` (specs
-//! `RepeatedKeys`, `RepeatedConditions`); `silenced` (specs `Silenced`), and `due`, what of that is reported beside
-//! faults (specs `Due`); `checked`, of a template, and `found`, of all; `registered`, the names that a program registers
-//! (specs `Registered`), and `unknown`, of each part by these (specs `Unknown`); `unused_components`, over all templates
-//! (specs `UnusedComponents`; `Added`, what these add); `levels`, what of all that is reported (specs `Levels`);
-//! `messages`, texts; `finding`, `faults`; `fault_findings`, with `causes`, `tags`, `hints` and `walk` (specs
-//! `FaultFindings`, `Hints`); `objects`; `laws`.
+//! `ignores`, the comments that silence findings (specs `Boundaries`, `Ignores`); `catalogue`; `calls`, over the parts
+//! of a tree (specs `Pending`); `bodies`, of calls, and what shows them (specs `Bodies`); `repeated`, `passed`,
+//! `arguments` and `judged`, of one call; `parameters`, of one component (specs `Scopes`); `rules`, of each part by
+//! itself, with `repeated_keys` and `repeated_conditions` (specs `RepeatedKeys`, `RepeatedConditions`); `silenced`
+//! (specs `Silenced`), and `due`, what of that is reported if there are faults (specs `Due`); `checked`, of a template,
+//! and `found`, of all; `registered`, the names that a program registers (specs `Registered`), and `unknown`, of each
+//! part by these (specs `Unknown`); `unused_components`, over all templates (specs `UnusedComponents`; `Added`, what
+//! these add); `levels`, what of all that is reported (specs `Levels`); `messages`, texts; `finding`, `faults`;
+//! `fault_findings`, with `causes`, `tags`, `hints` and `walk` (specs `FaultFindings`, `Hints`); `objects`; `laws`.
 #![tactic(auto)]
 
 mod arguments;

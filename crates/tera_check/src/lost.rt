@@ -10,8 +10,8 @@ ghost use Rattle.tera_check.specs.Lost.{AreWordsOf, HasBetween, IsBetween, IsLos
 use std::alloc::{AllocError, Global};
 use std::collections::{BTreeMap, BTreeSet};
 
-/// The words of the source, and its `<`, in the place of which the text has something else: of each the bytes with which
-/// it begins.
+/// The words of the source, and its `<`, where the text has something else in their place: for each word the bytes with
+/// which it begins.
 pub(crate) fn lost_words(
     alloc: Global,
     source: &str,
@@ -28,7 +28,7 @@ pub(crate) fn lost_words(
     Ok(lost)
 }
 
-// Keeps the word of the source between these bytes, if the text has something else there.
+// Adds the word of the source between these bytes, if the text has something else there.
 fn put_if_lost(
     alloc: Global,
     lost: &mut BTreeMap<String, BTreeSet<usize>>,
@@ -129,7 +129,7 @@ fn push_word(words: &mut Vec<(usize, usize)>, start: usize, end: usize) -> Resul
     Ok(())
 }
 
-// Adds the byte at this place, if it is `<`.
+// Adds this place, if the byte there is `<`.
 fn push_mark(words: &mut Vec<(usize, usize)>, byte: u8, at: usize) -> Result<(), AllocError>
     ensures { at + 1 < 2 ^ 64 → OnOk result (words.new.items
         ≡ words.old.items ++ (if nat_eq byte 60 then (at, at + 1) ∷ [] else [])) }
@@ -140,7 +140,7 @@ fn push_mark(words: &mut Vec<(usize, usize)>, byte: u8, at: usize) -> Result<(),
     Ok(())
 }
 
-/// Whether the byte is one of a word.
+/// Whether the byte may be in a word.
 pub(crate) fn goes_on_name(byte: u8) -> bool
     ensures { result ≡ goes_on_name byte }
 {

@@ -14,7 +14,7 @@ use tera_parser::{Names, ParserOutput};
 #[derive(Drop)]
 pub struct Mended {
     pub source: String,
-    /// One at least, in the order in which they were met, which need not be that of their places.
+    /// At least one, in the order in which they were met, which may not be the order of their places.
     pub faults: Vec<Fault>,
     /// The tree of the text below.
     pub output: ParserOutput,
@@ -23,18 +23,18 @@ pub struct Mended {
     /// Whether there are more faults. Then the text has these edits too, or is empty.
     pub cut: bool,
     pub rest: Vec<Edit>,
-    /// The words of the source, and its `<`, in the place of which the text has something else: of each the bytes with
-    /// which it begins.
+    /// The words of the source, and its `<`, where the text has something else in their place: for each word the bytes
+    /// with which it begins.
     pub lost: BTreeMap<String, BTreeSet<usize>>,
     /// The bytes with which the text has the word that ends a definition.
     pub ends: BTreeSet<usize>,
 }
 
-// About how many bytes are parsed of a source at the most, except the first parse and the last.
+// About how many bytes of a source are parsed at most, the first parse and the last not counted.
 const MOST_BYTES: usize = 10_000_000;
 
-/// What a source with a fault is read as, and its names, where at most so many faults are reported. None where no fault
-/// may be reported, or nothing can be written for the first.
+/// What a source with a fault is read as, and its names; at most `most` faults are reported. `None` if that is 0, or if
+/// nothing can be written for the first fault.
 pub(crate) fn read_mended(
     alloc: Global,
     file: &str,

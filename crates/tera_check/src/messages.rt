@@ -1,5 +1,5 @@
-//! The texts of findings and of their notes, but of faults, and of arguments that are refused: those are reported as
-//! the parser and the tree say them.
+//! The texts of findings and of their notes. The texts of faults, and of arguments that are not accepted, are those of
+//! the parser and of the tree.
 
 ghost use Rattle.std.specs.Prelude.{◌≡◌, IfOk, string_bytes};
 ghost use Rattle.tera_base.specs.Text.{key_text};
@@ -41,14 +41,14 @@ pub(crate) fn repeated_key(alloc: Global, key: &Key) -> Result<String, AllocErro
     format!(in alloc; "Key `{key}` is given more than once in the map. This value does not count.")
 }
 
-/// That the condition is one before it in the chain.
+/// That the condition is the same as one before it in the chain.
 pub(crate) fn condition_again(alloc: Global) -> Result<String, AllocError>
     ensures { IfOk result (λ m. string_bytes m ≡ again_condition_text) }
 {
     String::from_str(alloc, "This condition is the same as one before it")
 }
 
-/// Where that one is.
+/// Where the earlier condition is.
 pub(crate) fn earlier_condition(alloc: Global) -> Result<String, AllocError>
     ensures { IfOk result (λ m. string_bytes m ≡ earlier_text) }
 {
@@ -87,7 +87,7 @@ pub(crate) fn unused_component(alloc: Global, name: &str) -> Result<String, Allo
     format!(in alloc; "No template calls the component `{name}`")
 }
 
-/// Where the component is defined that is called.
+/// Where the called component is defined.
 pub(crate) fn defined_here(alloc: Global, name: &str) -> Result<String, AllocError>
     ensures { IfOk result (λ m. string_bytes m ≡ here_text name.now) }
 {
@@ -101,7 +101,7 @@ pub(crate) fn defined_again(alloc: Global, name: &str) -> Result<String, AllocEr
     format!(in alloc; "Another template already contains a component named `{name}`")
 }
 
-/// Where that is defined.
+/// Where the first one is defined.
 pub(crate) fn first_defined(alloc: Global) -> Result<String, AllocError>
     ensures { IfOk result (λ m. string_bytes m ≡ first_text) }
 {
@@ -115,14 +115,14 @@ pub(crate) fn unused_ignore(alloc: Global, rule: &str) -> Result<String, AllocEr
     format!(in alloc; "No finding of the rule `{rule}` is silenced here")
 }
 
-/// That the ignore names what is not a rule.
+/// That the ignore names something that is not a rule.
 pub(crate) fn unknown_rule(alloc: Global, rule: &str) -> Result<String, AllocError>
     ensures { IfOk result (λ m. string_bytes m ≡ no_rule_text rule.now) }
 {
     format!(in alloc; "No rule is named `{rule}`")
 }
 
-/// That the ignore has no name where one of a rule has to be.
+/// That the ignore lacks the name of a rule.
 pub(crate) fn missing_rule(alloc: Global) -> Result<String, AllocError>
     ensures { IfOk result (λ m. string_bytes m ≡ missing_rule_text) }
 {
@@ -150,7 +150,7 @@ pub(crate) fn belongs_to_nothing(alloc: Global, word: &str) -> Result<String, Al
     format!(in alloc; "`{word}` belongs to nothing")
 }
 
-/// Where a fault was met whose tag has no end.
+/// Where a fault was met, if its tag has no end.
 pub(crate) fn met_here(alloc: Global) -> Result<String, AllocError>
     ensures { IfOk result (λ m. string_bytes m ≡ met_text) }
 {

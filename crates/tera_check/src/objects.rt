@@ -14,7 +14,7 @@ use std::alloc::{AllocError, Global};
 use tera_parser::value::Span;
 
 /// The finding as an object of JSON, on one line, with the members `file`, `line`, `column`, `end_line`, `end_column`,
-/// `message`, `severity`, `kind` and `notes`, of which each has the first six too.
+/// `message`, `severity`, `kind` and `notes`. Each note has the first six of them.
 pub fn object_of(alloc: Global, file: &str, finding: &Finding) -> Result<Vec<u8>, AllocError>
     ensures { IfOk result (λ v. v.items
         ≡ print (object_of file.now (finding_view finding.now)) ++ 10 ∷ []) }
@@ -35,7 +35,8 @@ pub fn put_object(writer: &mut Writer, file: &str, finding: &Finding) -> Result<
     put_with(writer, file, &finding.span, message, severity, word, notes)
 }
 
-/// A file that could not be read, and why, as such an object. Its kind is `unread`, and its place the start of the file.
+/// A file that could not be read, and why, as such an object. Its kind is `unread`, and its place is the start of the
+/// file.
 #[tactic(auto, unfolding(crate::specs::Objects::unread_object))]
 pub fn unread_object_of(alloc: Global, file: &str, why: &str) -> Result<Vec<u8>, AllocError>
     ensures { IfOk result (λ v. v.items ≡ print (unread_object file.now why.now) ++ 10 ∷ []) }

@@ -30,7 +30,7 @@ use tera_parser::ast::{
 };
 use tera_parser::value::{Span, Spanned};
 
-/// Adds a finding for each parameter that nothing in the body of its component names, where the parameter is.
+/// Adds a finding for each parameter that nothing in the body of its component names, at the place of the parameter.
 pub(crate) fn push_all_unused(
     alloc: Global,
     findings: &mut Vec<Finding>,
@@ -127,7 +127,7 @@ pub(crate) fn may_be_unused(name: &str) -> bool
     name.as_bytes().starts_with(b"_")
 }
 
-// Where the parameter of the component is; where the template has none, its beginning.
+// Where the parameter of the component is; if the template has no place for it, the start of the file.
 fn place_of(template: &Template, component: &str, name: &str) -> Span
     ensures { result ≡ span_if_any (parameter_at template.now component.now name.now) }
 {
@@ -150,7 +150,7 @@ fn unused(alloc: Global, component: &str, name: &str, span: Span) -> Result<Find
     Ok(Finding::new(alloc, Kind::UnusedParameter, &span, message))
 }
 
-// What variables name, and what calls may take, each with where one of them is; or whatever there is.
+// The names of variables, and the names that calls may take, each with the place of one of them; or `all` names.
 #[derive(Drop)]
 struct Naming<'a, 'c> {
     all: bool,
@@ -166,15 +166,14 @@ impl<'a, 'c> Naming<'a, 'c> {
     }
 }
 
-// Parts that are to come, and the names that loops and comprehensions around them give.
+// Parts that are still to be taken, and the names that loops and comprehensions around them give.
 #[derive(Drop)]
 struct Scope<'a> {
     hidden: Vec<&'a str>,
     parts: Parts<'a>,
 }
 
-// What the body names. One of more parts than a `u64` counts, which no memory holds, is answered as an allocation
-// failure.
+// What the body names. A body of more parts than a `u64` counts, which no memory holds, gives an allocation failure.
 fn naming_of<'a, 'c>(
     alloc: Global,
     catalogue: &Catalogue<'c>,
@@ -247,7 +246,7 @@ fn take_last<'a, 'c>(
     }
 }
 
-// Takes the part, after whose scope others may be then.
+// Takes the part. Scopes inside it are added after the others.
 fn take<'a, 'c>(
     alloc: Global,
     catalogue: &Catalogue<'c>,
@@ -425,7 +424,7 @@ fn take_variable<'a, 'c>(
     }
 }
 
-// Takes the call by itself: what its component may take of the variables where it is not given.
+// Takes the call itself: the variables that its component may take if they are not given.
 fn take_call<'a, 'c>(
     catalogue: &Catalogue<'c>,
     naming: &mut Naming<'a, 'c>,

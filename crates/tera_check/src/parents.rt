@@ -1,4 +1,4 @@
-//! Where a text has the name of the template that it extends.
+//! Where the name of the template is that a text extends.
 
 ghost use Rattle.std.specs.Prelude.{◌≡◌, IfOk};
 ghost use Rattle.tera_lexer.specs.code.Seen.{seen};
@@ -11,7 +11,7 @@ use std::alloc::{AllocError, Global};
 use tera_parser::lexer::{Delimiters, Token, Tokens, tokenize};
 use tera_parser::value::{ErrorKind, Span};
 
-/// Where the string is after the first `extends` with which a tag begins, if there is one. It takes the time of the text
+/// The place of the string after the first `extends` that begins a tag, if there is one. It takes time for the text
 /// before it.
 pub(crate) fn parent_at(alloc: Global, text: &str) -> Result<Option<Span>, AllocError>
     ensures { IfOk result (λ at. (items : Items) × AreTokensOf default_marks text.now items
@@ -55,7 +55,7 @@ pub(crate) enum Before {
     Other,
 }
 
-// What the token is for the next one.
+// What the next token has before it, after this one.
 fn before_next(before: Before, token: &Token<'_>) -> Before
     ensures { result ≡ before_next before (seen token.now) }
 {
@@ -81,7 +81,7 @@ fn first_word(before: Before, word: &str) -> Before
     }
 }
 
-// Whether the token is the name.
+// Whether the token is the name of the template.
 fn is_name_after(before: Before, token: &Token<'_>) -> bool
     ensures { result ≡ is_name_after before (seen token.now) }
 {

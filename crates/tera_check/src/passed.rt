@@ -121,7 +121,7 @@ fn push_any(passed: &mut Vec<Passed<'_>>) -> Result<(), AllocError>
     Ok(())
 }
 
-// The pairs of a map, as what is at the span.
+// Adds the pairs of a map, each at this span.
 fn push_pairs<'a>(
     passed: &mut Vec<Passed<'a>>,
     pairs: &'a Map,
@@ -146,11 +146,11 @@ fn constant_of(expression: &Expression) -> Option<&Value>
     }
 }
 
-/// The names under which something is passed.
+/// The names of what is passed.
 #[derive(Drop)]
 pub(crate) struct Names {
     pub(crate) under: BTreeSet<String>,
-    /// Whether something is passed of which the names are not known.
+    /// Whether something is passed whose names are not known.
     pub(crate) more: bool,
 }
 
@@ -159,7 +159,7 @@ impl Names {
     ghost use Rattle.std.specs.BTreeSet.{contains_text};
     ghost use Rattle.tera_check.specs.Passed.{passed_view, is_under, is_whatever, AreNamesOf};
 
-    /// Those of nothing.
+    /// The names if nothing is passed.
     pub(crate) fn none(alloc: Global) -> Names
         ensures { AreNamesOf result [] }
     {
@@ -169,7 +169,7 @@ impl Names {
         }
     }
 
-    /// Adds that of one more.
+    /// Adds the name of one more.
     pub(crate) fn add(&mut self, one: &Passed<'_>) -> Result<(), AllocError>
         ensures under { OnOk result ((n : List ℕ) → contains_text self.new.under n
             ≡ (if is_under n (passed_view one.now) then true else contains_text self.old.under n)) }

@@ -10,7 +10,7 @@ use std::collections::BTreeSet;
 /// Names of filters, of tests, of functions or of components.
 pub(crate) type Names<'a> = BTreeSet<&'a str>;
 
-/// What a program registers under names.
+/// The kinds of what a program registers under names.
 #[derive(Clone, Copy)]
 pub(crate) enum Registry {
     Filters,
@@ -18,8 +18,8 @@ pub(crate) enum Registry {
     Functions,
 }
 
-/// The filters, tests and functions that templates may name, where they are known: all that there are in the program that
-/// renders the templates.
+/// The filters, tests and functions that templates may name, if they are known: all those of the program that renders
+/// the templates.
 #[derive(Debug, Drop)]
 pub struct Registered<'a> {
     filters: Option<Names<'a>>,
@@ -31,7 +31,7 @@ impl<'a> Registered<'a> {
     ghost use Rattle.std.specs.Prelude.{◌≡◌, IfOk};
     ghost use Rattle.tera_check.specs.Registered.{AreListed, has, list_view, registered_view};
 
-    /// Those of these lists. If a list is absent, any name may be one of its names.
+    /// The names in these lists. If a list is absent, every name is taken as registered.
     pub fn of(
         alloc: Global,
         filters: Option<&'a [String]>,

@@ -1,4 +1,4 @@
-//! Values under keys that come again, so that they do not count: the arguments of a call, and what a map has.
+//! Values that do not count, as their key comes again: in the arguments of a call, and in a map.
 
 ghost use Rattle.std.specs.Prelude.{◌≡◌, ◌∷◌, [], ◌++◌, ℕ, ℤ, List, None, Some, cond, bytes_eq, map, string_bytes, IfOk, OnOk};
 ghost use Rattle.std.specs.Option.{option_map};
@@ -27,7 +27,7 @@ pub(crate) enum Holder {
     Map,
 }
 
-/// Spans under names: of each name that which was put there last.
+/// Spans under names: for each name the one that was put there last.
 pub(crate) type Spans<'n, 'a> = BTreeMap<&'n str, &'a Span>;
 
 /// Adds a finding for each value whose key is written again after it, at its place, from the last to the first.
@@ -147,7 +147,7 @@ impl Holder {
     }
 }
 
-/// Where values are under keys: of each key that which was put there last.
+/// Where the values are, by their keys: for each key the one that was put there last.
 #[derive(Drop)]
 struct Following<'a> {
     texts: Spans<'a, 'a>,
@@ -191,7 +191,7 @@ impl<'a> Following<'a> {
     }
 }
 
-/// Puts the span under the name, and answers the one that was there.
+/// Puts the span under the name, and returns the one that was there.
 pub(crate) fn put_span<'n, 'a>(
     following: &mut Spans<'n, 'a>,
     name: &'n str,

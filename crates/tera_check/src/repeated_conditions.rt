@@ -17,8 +17,8 @@ use std::collections::BTreeMap;
 use tera_parser::ast::{Expression, If, Node, Part};
 use tera_parser::expr::source_of;
 
-/// What a walk keeps of the chain of `if`s in which it is: for each condition that comes, from the last to the first, the
-/// next one that is the same.
+/// What a walk keeps of the chain of `if`s that it is in: for each condition still to come, from the last to the first,
+/// the next one that is the same.
 #[derive(Drop)]
 pub(crate) struct Chain<'a> {
     nexts: Vec<Option<&'a Expression>>,
@@ -38,8 +38,8 @@ impl<'a> Chain<'a> {
     }
 }
 
-/// Adds a finding where the condition of the part, which is an `if` or an `elif`, comes again in the chain for the first
-/// time. The parts of a chain come one after the other, so its conditions are compared once.
+/// Adds a finding where the condition of the part, if it is an `if` or an `elif`, comes again in the chain for the
+/// first time. The parts of a chain come one after the other, so its conditions are compared once.
 pub(crate) fn push_repeated_conditions<'a>(
     alloc: Global,
     findings: &mut Vec<Finding>,
@@ -89,7 +89,7 @@ fn push_if_again<'a>(
     push_if_any(alloc, findings, file, &choice.expr, next)
 }
 
-// The next condition of the chain that is the same as that of this `if`.
+// The next condition of the chain that is the same as the condition of this `if`.
 fn next_of<'a>(
     alloc: Global,
     chain: &mut Chain<'a>,
@@ -108,7 +108,7 @@ fn next_of<'a>(
     }
 }
 
-// Keeps of each condition from this `if` on the next one that is the same, if they are not kept yet.
+// Keeps for each condition from this `if` on the next one that is the same, unless they are kept already.
 fn keep_nexts<'a>(alloc: Global, chain: &mut Chain<'a>, choice: &'a If) -> Result<(), AllocError>
     requires { IsKept (kept chain.old) (nexts (conditions_of (if_view choice.now))) }
     ensures { OnOk result (kept chain.new ≡ nexts (conditions_of (if_view choice.now))) }
@@ -144,8 +144,8 @@ fn elif_of(nodes: &Vec<Node>) -> Option<&If>
     }
 }
 
-// The conditions of the `if` and of the `elif`s after it. A chain of more than a `u64` counts, which no memory holds, is
-// answered as an allocation failure.
+// The conditions of the `if` and of the `elif`s after it. A chain of more than a `u64` counts, which no memory holds,
+// gives an allocation failure.
 fn conditions_of<'a>(alloc: Global, choice: &'a If) -> Result<Vec<&'a Expression>, AllocError>
     ensures { IfOk result (λ v. map (λ e. expression_view e.now) v.items
         ≡ conditions_of (if_view choice.now)) }
@@ -162,7 +162,7 @@ fn conditions_of<'a>(alloc: Global, choice: &'a If) -> Result<Vec<&'a Expression
     Err(AllocError)
 }
 
-// Of each condition the next one that is the same, from the last to the first.
+// For each condition the next one that is the same, from the last to the first.
 fn nexts_of<'a>(
     alloc: Global,
     mut conditions: Vec<&'a Expression>,

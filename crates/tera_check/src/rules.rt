@@ -1,7 +1,7 @@
 //! The rules that look at one part of a tree by itself.
 //!
-//! Each is a module, with specs of its name: it takes a part, and adds what it finds there. `push_found_in` has a line
-//! for each.
+//! Each is a module, with specs of the same name: it takes a part, and adds what it finds there. `push_found_in` has a
+//! line for each.
 
 ghost use Rattle.std.specs.Prelude.{◌≡◌, ◌∷◌, [], ◌++◌, map, OnOk};
 ghost use Rattle.std.specs.List.{flat_map};
@@ -19,8 +19,8 @@ use std::alloc::{AllocError, Global};
 use tera_parser::ParserOutput;
 use tera_parser::ast::{Part, Parts, top_parts};
 
-/// Adds what these rules find in the tree. A tree of more parts than a `u64` counts, which no memory holds, is answered
-/// as an allocation failure.
+/// Adds what these rules find in the tree. A tree of more parts than a `u64` counts, which no memory holds, gives an
+/// allocation failure.
 pub(crate) fn push_all_small(
     alloc: Global,
     findings: &mut Vec<Finding>,
@@ -41,7 +41,7 @@ pub(crate) fn push_all_small(
     Err(AllocError)
 }
 
-// Takes the part, after which those in it are to come.
+// Adds what these rules find in the part, and puts the parts inside it on the list.
 #[tactic(auto, using(crate::proofs::RulesLemmas::taken))]
 fn take<'a>(
     alloc: Global,

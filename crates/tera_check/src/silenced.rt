@@ -18,7 +18,7 @@ use crate::templates::Template;
 use std::alloc::{AllocError, Global};
 use std::collections::{BTreeMap, BTreeSet};
 
-/// Lines, by the words for rules.
+/// Lines, by the names of rules.
 pub(crate) type Lines = BTreeMap<String, BTreeSet<usize>>;
 
 /// The lines on which findings of each rule are silenced.
@@ -53,7 +53,7 @@ fn next_line(ignore: &Ignore) -> usize
     ignore.span.end_line.saturating_add(1)
 }
 
-/// Whether the line is among those of the rule.
+/// Whether the line is among the lines of the rule.
 pub(crate) fn has_line(lines: &Lines, rule: &str, line: usize) -> bool
     ensures { Decides result (Contains (places_under lines.now rule.now) line) }
 {
@@ -69,8 +69,8 @@ fn is_in(lines: &BTreeSet<usize>, line: usize) -> bool
     lines.contains(&line)
 }
 
-/// Adds a finding for each ignore of the template that silences nothing of what is found in its tree. In a template with a
-/// fault none is reported, as not all of its findings may be known.
+/// Adds a finding for each ignore of the template that silences nothing of what is found in its tree. If the template
+/// has a fault, none is reported, as not all of its findings may be known.
 pub(crate) fn push_unused_ignores(
     alloc: Global,
     findings: &mut Vec<Finding>,
@@ -142,7 +142,7 @@ fn push_if_unused(
     }
 }
 
-// Whether it is known that the ignore silences nothing. Findings begin on these lines.
+// Whether it is known that the ignore silences nothing; `lines` are those on which findings begin.
 fn is_unused(is_open: bool, lines: &Lines, ignore: &Ignore) -> bool
     ensures { (found : List FindingVal) → AreLinesOf (has_finding_at found) lines.now →
         result ≡ is_unused is_open found (ignore_view ignore.now) }
@@ -150,7 +150,7 @@ fn is_unused(is_open: bool, lines: &Lines, ignore: &Ignore) -> bool
     is_judged(is_open, ignore.rule.as_str()) && !is_met(lines, ignore)
 }
 
-// Whether a finding of the rule begins on one of these lines that the ignore covers.
+// Whether a finding of the rule begins on a line that the ignore covers.
 fn is_met(lines: &Lines, ignore: &Ignore) -> bool
     ensures { (found : List FindingVal) → AreLinesOf (has_finding_at found) lines.now →
         result ≡ list_any (silences (ignore_view ignore.now)) found }
@@ -160,7 +160,7 @@ fn is_met(lines: &Lines, ignore: &Ignore) -> bool
         || (ignore.alone && has_line(lines, rule, next_line(ignore)))
 }
 
-// Whether it is known that nothing of the rule is found.
+// Whether all findings of the rule are known.
 fn is_judged(is_open: bool, rule: &str) -> bool
     ensures { result ≡ is_judged is_open rule.now }
 {
@@ -210,7 +210,7 @@ fn unused_text(alloc: Global, rule: &str) -> Result<String, AllocError>
     }
 }
 
-// What is said of a word that is not a rule.
+// The text for a word that is not a rule.
 fn not_a_rule(alloc: Global, rule: &str) -> Result<String, AllocError>
     ensures { IfOk result (λ m. string_bytes m ≡ not_a_rule_text rule.now) }
 {

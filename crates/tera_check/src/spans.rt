@@ -10,7 +10,7 @@ use tera_parser::Names;
 use tera_parser::ast::ComponentDefinition;
 use tera_parser::value::Span;
 
-/// Where the names of the components with these definitions are, in their order: of each the last part.
+/// Where the names of the components with these definitions are, in their order: the last part of each name.
 pub(crate) fn spans_of(
     alloc: Global,
     names: &Names,
@@ -27,7 +27,7 @@ pub(crate) fn spans_of(
     Ok(spans)
 }
 
-// Where the name of this component is; where the template has none, its beginning.
+// Where the name of this component is; if the template has no place for it, the start of the file.
 fn span_named(names: &Names, name: &str) -> Span
     ensures { result ≡ span_if_any (located_of names.now.components name.now) }
 {
@@ -37,7 +37,7 @@ fn span_named(names: &Names, name: &str) -> Span
     }
 }
 
-/// The span of nothing, where a file begins.
+/// An empty span at the start of a file.
 pub fn first_span() -> Span
     ensures { result ≡ first_span }
 {

@@ -16,7 +16,7 @@ pub(crate) enum Role {
     Other,
 }
 
-/// What the word of a tag says that it is for. A `set` with a value has no end either.
+/// The role of a tag by its word alone: `Head` also for a `set` with a value and for a call without a body.
 pub(crate) fn role_of(word: &str) -> Role {
     match word {
         "if" | "for" | "block" | "component" | "set" | "set_global" | "filter" | "raw" | "<" => {
@@ -35,7 +35,7 @@ pub(crate) fn role_of(word: &str) -> Role {
     }
 }
 
-/// The word of a tag: where it is in a text, and what it is for.
+/// The word of a tag: where it is in a text, and its role.
 #[derive(Clone, Copy, Debug)]
 pub(crate) struct Word {
     pub(crate) start: usize,
@@ -43,8 +43,8 @@ pub(crate) struct Word {
     pub(crate) role: Role,
 }
 
-/// The word of the tag that begins at this byte; of a call `<` and the name; of a variable tag or a comment its start
-/// marker.
+/// The word of the tag that begins at this byte. For a call it is `<` and the name; for a variable tag or a comment it
+/// is the start marker.
 pub(crate) fn word_at(text: &str, start: usize) -> Option<Word> {
     let tag = text.get(start..)?;
     let Some(inside) = tag.strip_prefix("{%") else {
@@ -76,7 +76,7 @@ fn marker_at(tag: &str, start: usize) -> Option<Word> {
     None
 }
 
-// The length of the word with which the text begins; of a call that of `<` or `</` and the name.
+// The length of the word with which the text begins; for a call, of `<` or `</` and the name.
 fn word_len(text: &str) -> usize {
     let name = text.trim_start_matches('<').trim_start_matches('/');
     let marks = text.len().saturating_sub(name.len());
@@ -89,14 +89,14 @@ fn word_len(text: &str) -> usize {
     text.len()
 }
 
-/// An end that is in a text, and the word of the head to which it belongs.
+/// An end tag in a text, and the word of the head to which it belongs.
 #[derive(Clone, Copy, Debug)]
 pub(crate) struct Closed {
     pub(crate) at: usize,
     pub(crate) head: Word,
 }
 
-/// The ends of a template that begin at this byte or after it.
+/// The end tags of a template that begin at this byte or after it, up to the first lexical fault.
 pub(crate) fn closed_from(
     alloc: Global,
     text: &str,
@@ -127,7 +127,7 @@ pub(crate) fn closed_from(
     Ok(closed)
 }
 
-// Takes a tag that has ended: a head is open then, and an end closes the last one.
+// Takes a whole tag: a head is open then, and an end closes the last open one.
 fn end_tag(
     open: &mut Vec<Word>,
     closed: &mut Vec<Closed>,
@@ -151,7 +151,7 @@ fn end_tag(
     Ok(())
 }
 
-// A tag of which some tokens were read.
+// A tag, and what is known of it after some of its tokens.
 #[derive(Clone, Copy)]
 struct Begun {
     start: usize,
@@ -224,7 +224,7 @@ impl Begun {
         }
     }
 
-    // What the tag is for, where all its tokens were read.
+    // The role of the tag, after all its tokens.
     fn role(&self) -> Role {
         if (self.is_set && self.has_value) || (self.is_call && self.is_closed) {
             return Role::Other;

@@ -41,24 +41,23 @@ pub struct Template {
     pub file: String,
     /// Its tree, or its first fault, which is a syntax error.
     pub parsed: Result<ParserOutput, Error>,
-    /// Where it has a fault and more are reported, what it is read as. [`tree_of`] is that tree.
+    /// If it has a fault and more than the first may be reported, what it is read as. Its tree is [`tree_of`] then.
     pub mended: Option<Mended>,
-    /// Where each component of its tree is defined: the last part of its name, for `ui.button` that is `button`.
+    /// Where each component of its tree is defined: the last part of its name, `button` for `ui.button`.
     pub defined_at: Vec<Span>,
     /// Where the parameters of each component are, by the name of the component and their own.
     pub parameters_at: BTreeMap<String, BTreeMap<String, Span>>,
-    /// Where the name is of the template that it extends: the string.
+    /// Where the name of the template that it extends is: the string.
     pub parent_at: Option<Span>,
     /// The rules that its comments silence.
     pub ignores: Vec<Ignore>,
-    /// The names of those of its components that never show the body that they are given. In a template with a fault none
-    /// is known.
+    /// The names of its components that never show the body that they are given. If the template has a fault, none is
+    /// known.
     pub bodies_hidden: BTreeSet<String>,
 }
 
-/// Reads the template in the file of this name. At most so many of its faults are reported; with 0 only the first is
-/// known, and then there is no tree of what is right in it. Its faults are in the answer; an allocation failure is the
-/// error.
+/// Reads the template in the file of this name. At most `faults` of its faults are reported; with 0 only the first is
+/// known, and there is no tree of the rest. Faults are in the result, and an allocation failure is the error.
 pub fn read_template(
     alloc: Global,
     file: &str,
@@ -114,8 +113,8 @@ pub fn read_template(
     }
 }
 
-/// Reads the template in the file of this name between other markers. Of its faults only the first is known, and then
-/// there is no tree of what is right in it. It is not known where the name is of a template that it extends.
+/// Reads the template in the file of this name between other markers. Only the first of its faults is known, and then
+/// there is no tree. The place of the name of a template that it extends is not known.
 pub fn read_template_between(
     alloc: Global,
     file: &str,
@@ -212,7 +211,7 @@ fn with_fault(
     })
 }
 
-// A template of which a fault is known, and nothing else.
+// A template of which only a fault is known.
 fn without_tree(alloc: Global, file: String, error: Error) -> Template
     ensures { (result.file ≡ file) × (result.parsed ≡ Err error) × (result.mended ≡ None)
         × (result.defined_at.items ≡ []) × (grouped_of result.parameters_at ≡ nothing_grouped)
@@ -251,7 +250,7 @@ fn is_kept(source: &str, text: &str, ignore: &Ignore) -> bool
     is_same_part(source, text, ignore.span.range.start, ignore.span.range.end)
 }
 
-// Where the text of this tree has the name of the template that it extends.
+// Where the name of the template is that the text of this tree extends.
 fn parent_if_any(
     alloc: Global,
     output: &ParserOutput,
@@ -265,7 +264,7 @@ fn parent_if_any(
     }
 }
 
-/// The tree of the template, or that of what is left of it.
+/// The tree of the template; if it has faults, the tree that it was mended to, if there is one.
 pub fn tree_of(template: &Template) -> Option<&ParserOutput>
     ensures { option_map (λ o. o.now) result ≡ tree_of template.now }
 {
@@ -286,8 +285,8 @@ pub fn definitions_of(template: &Template) -> &[ComponentDefinition]
     }
 }
 
-/// Whether the template may define more components than its tree: it has a fault, and nothing else is known of it, or the
-/// head or the end of a definition was written over.
+/// Whether the template may define more components than its tree has: it has a fault and no tree, or the head or the
+/// end of a definition was overwritten.
 pub fn is_open(template: &Template) -> bool
     ensures { result ≡ is_open template.now }
 {

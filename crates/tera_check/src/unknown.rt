@@ -72,8 +72,8 @@ fn add_to(
     found.add(unknown_found(alloc, registered, template)?)
 }
 
-/// The filters, tests and functions in the template that the program does not have. Nothing is found that comes of what
-/// was written for a fault.
+/// The filters, tests and functions in the template that the program does not have. Nothing is found that comes from
+/// what was written for a fault.
 pub fn unknown_found(
     alloc: Global,
     registered: &Registered<'_>,
@@ -104,7 +104,7 @@ fn due_in_tree(
     Ok(due)
 }
 
-// Adds what these rules find in the tree. A tree of more parts than a `u64` counts is answered as an allocation failure.
+// Adds what these rules find in the tree. A tree of more parts than a `u64` counts gives an allocation failure.
 fn push_all_unknown(
     alloc: Global,
     findings: &mut Vec<Finding>,
@@ -124,7 +124,7 @@ fn push_all_unknown(
     Err(AllocError)
 }
 
-// Takes the part, after which those in it are to come.
+// Adds what these rules find in the part, and puts the parts inside it on the list.
 #[tactic(auto, using(crate::proofs::UnknownLemmas::taken))]
 fn take<'a>(
     alloc: Global,
@@ -190,7 +190,7 @@ fn push_if_unknown(
     push_finding(findings, Finding::new(alloc, kind, span, message))
 }
 
-// Of what kind the finding is that one of a name is missing.
+// The kind of the finding for a name that is not registered.
 fn unknown_kind(registry: Registry) -> Kind
     ensures { result ≡ unknown_kind registry }
 {
@@ -201,7 +201,7 @@ fn unknown_kind(registry: Registry) -> Kind
     }
 }
 
-// That there is none of this name.
+// The text that there is none of this name.
 fn unknown_text(alloc: Global, registry: Registry, name: &str) -> Result<String, AllocError>
     ensures { IfOk result (λ m. string_bytes m ≡ unknown_text registry name.now) }
 {

@@ -26,9 +26,9 @@ use tera_parser::value::{Span, Spanned};
 // The components that templates call.
 #[derive(Drop)]
 struct Called<'a> {
-    // All may be called, as a template has a fault.
+    // Whether all may be called, as a template has a fault.
     all: bool,
-    // The names of those that are called.
+    // The names of the components that are called.
     names: Names<'a>,
 }
 
@@ -44,7 +44,7 @@ impl<'a> Called<'a> {
     }
 }
 
-/// Adds, to what is found in each of the first `checked` templates, its components that no template calls. While a
+/// Adds, to what is found in each of the first `checked` templates, its components that no template calls. If any
 /// template has a fault there are none, as it may call any. What is found is in the order of the templates.
 pub fn add_unused_components(
     alloc: Global,

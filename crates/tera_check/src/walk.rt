@@ -29,8 +29,8 @@ impl Walk {
         }
     }
 
-    /// The place of a byte of the text. It takes the time of the bytes from this place to it, or where it is before this
-    /// place, that of the bytes before it.
+    /// The place of a byte of the text. It takes time for the bytes from this place to it or, if it is before this
+    /// place, for all bytes before it.
     pub(crate) fn to(self, text: &str, byte: usize) -> Walk
         ensures { IsAt text.now self → byte ≤ length text.now →
             IsAt text.now result × (result.byte ≡ byte) }
