@@ -1,4 +1,4 @@
--- What is found of names, beside what else is found in the templates.
+-- What is found of names, added to what else is found in the templates.
 use Rattle.std.specs.Prelude.{◌≡◌, ◌≢◌, ◌⊎◌, ◌<◌, ◌≤◌, ◌++◌, ℕ, List, Bool, true, false, map, length, Option, None, Some, slice_get, slice_index_or}
 use Rattle.std.specs.BTreeSet.{contains_text}
 use Rattle.std.specs.List.Sorted.{IsPermutation}
@@ -12,13 +12,14 @@ use Rattle.tera_site.specs.Named.{due_names}
 use Rattle.tera_site.specs.Sites.{AroundVal, IsSite}
 use Rattle.tera_site.specs.declared.found.SiteNames.{SiteNames}
 
--- of a file there is found what was, and what is found of the names that the template has, in the order of the places
+-- what is found in a file is what was found before, and what is found of the names that the template has, in the order
+-- of the places
 pub record IsWith (a : AroundVal) (t : Template) (old new : Found) : Type 0 where
   pub file : new.file ≡ old.file
   pub in_order : IsInOrder new.findings.items
   pub found : IsPermutation (map finding_view old.findings.items ++ due_names a t) (map finding_view new.findings.items)
 
--- so it is of the template of a number, and what is found in all others stays
+-- this holds of the template of a number, and what is found in all others stays
 pub record AddsAt (a : AroundVal) (ts : List Template) (number : ℕ) (old new : List Found) : Type 0 where
   pub each : length new ≡ length old
   pub here : (t : Template) (f g : Found) → slice_get ts number ≡ Some t → slice_get old number ≡ Some f → slice_get new number ≡ Some g → IsWith a t f g
@@ -28,12 +29,12 @@ pub record AddsAt (a : AroundVal) (ts : List Template) (number : ℕ) (old new :
 abbrev pub is_named : SiteNames → ℕ → Bool
 is_named names number = is_some (slice_index_or names.names.items number None)
 
--- .. where that is in the site
+-- .. if it is in the site
 abbrev pub AddsIf : Bool → AroundVal → List Template → ℕ → List Found → List Found → Type 0
 AddsIf true a ts number old new = AddsAt a ts number old new
 AddsIf false a ts number old new = new ≡ old
 
--- so it is of each of the first templates that is in the site, by what is around each
+-- this holds of each of the first templates that is in the site, by what is around it
 pub record AreAdded (around : ℕ → AroundVal) (names : SiteNames) (ts : List Template) (checked : ℕ) (old new : List Found) : Type 0 where
   pub each : length new ≡ length old
   pub added : (n : ℕ) (t : Template) (f g : Found) → n < checked → is_named names n ≡ true

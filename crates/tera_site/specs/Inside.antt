@@ -1,4 +1,4 @@
--- Parts of a tree that are to come, each with the name of the block that is around it.
+-- Parts of a tree that are still to be taken, each with the name of the block around it.
 use Rattle.std.specs.Prelude.{ℕ, List, [], ◌∷◌, ◌++◌}
 use Rattle.std.specs.Option.{option_map}
 use Rattle.tera_tree.specs.Parts.{parts_view}

@@ -24,8 +24,8 @@ kept_page p = record {
 abbrev pub is_one_of : List (List ℕ) → List ℕ → Bool
 is_one_of ns n = list_any (bytes_eq n) ns
 
--- What is around a page, and of that what is under its own names: those that it uses, and those of its blocks. Under other
--- names there is nothing, and no block is lacking.
+-- What is around a page, only under its own names: those that it uses, and those of its blocks. Under other names there
+-- is nothing, and no block is lacking.
 abbrev pub on_page : PageVal → AroundVal → AroundVal
 on_page p a = record {
   has = λ n. is_one_of (used_names p) n && a.has n;
@@ -34,7 +34,7 @@ on_page p a = record {
   inherited = Some (λ n. not (is_one_of p.blocks n && lacks a n));
 }
 
--- that, by lists of names: of templates that there are, of those that lead back, and of blocks that are lacking
+-- that, as lists of names: templates that are there, those that lead back, and blocks that are lacking
 pub record KeptVal : Type 0 where
   pub there : List (List ℕ)
   pub back : List (List ℕ)

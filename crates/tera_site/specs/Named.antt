@@ -16,7 +16,7 @@ use Rattle.tera_check.specs.declared.templates.Template.{Template}
 use Rattle.tera_site.specs.Placed.{placed_parts_of}
 use Rattle.tera_site.specs.Sites.{AroundVal}
 
--- ---- names that no template has, and templates that are reached again
+-- ---- names that no template has, and templates that lead back
 
 abbrev pub missing_text : List ℕ → List ℕ
 missing_text name = codes "No template is named `" ++ (name ++ codes "`")
@@ -36,20 +36,20 @@ circular_include_text name = codes "Template `" ++ (name ++ codes "` includes or
 abbrev pub circular_include : List ℕ → Span → FindingVal
 circular_include name span = FindingOf kinds.CircularInclude span (circular_include_text name) []
 
--- what it extends, by the name at a span
+-- for what it extends, by the name at a span
 abbrev pub parent_findings : AroundVal → Span → Option (List ℕ) → List FindingVal
 parent_findings a span None = []
 parent_findings a span (Some name) =
     if not (a.has name) then missing name span ∷ []
     else (if a.extends_itself then circular_extends name span ∷ [] else [])
 
--- what it includes
+-- for what it includes
 abbrev pub include_findings : AroundVal → List ℕ → Span → List FindingVal
 include_findings a name span =
     if not (a.has name) then missing name span ∷ []
     else (if a.comes_back name then circular_include name span ∷ [] else [])
 
--- ---- blocks that no template has that it extends
+-- ---- blocks that none of the templates that it extends has
 
 -- it is known that none has the block
 abbrev pub lacks : AroundVal → List ℕ → Bool
@@ -73,7 +73,7 @@ abbrev pub blocks_findings : AroundVal → Option (List ℕ) → List Stmt → L
 blocks_findings a None ns = []
 blocks_findings a (Some parent) ns = flat_map (block_findings a) ns
 
--- ---- `super()` where there is nothing above the block
+-- ---- `super()` if there is nothing above the block
 
 abbrev pub super_outside_text : List ℕ
 super_outside_text = codes "`super()` is in no block"
@@ -109,7 +109,7 @@ names_findings a span o =
     parent_findings a span o.parent
     ++ (blocks_findings a o.parent o.nodes ++ flat_map (site_part a) (placed_parts_of o))
 
--- those that are due, as what is found in a tree is
+-- the ones that are due, as for other findings in a tree
 abbrev pub due_names : AroundVal → Template → List FindingVal
 due_names a t =
     option_map_or (λ o. filter (is_due false t) (names_findings a (span_if_any t.parent_at) (output_view o))) (tree_of t) []

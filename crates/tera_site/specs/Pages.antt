@@ -22,7 +22,7 @@ pub record PageVal : Type 0 where
   pub blocks : List (List ℕ)
   pub is_whole : Bool
 
--- of a part of its tree
+-- what a part of its tree says
 abbrev pub included : PartVal → List (List ℕ)
 included (NodePart (Include name span)) = name ∷ []
 included _ = []
@@ -31,7 +31,7 @@ abbrev pub block_name : PartVal → List (List ℕ)
 block_name (NodePart (Block name span body)) = name ∷ []
 block_name _ = []
 
--- words without which a text may have had more blocks, or extended a template
+-- words that a text may have lost with a block, or with a template that it extends
 abbrev pub lost_any : Mended → Bool
 lost_any m = is_lost m (codes "block") || (is_lost m (codes "endblock") || is_lost m (codes "extends"))
 

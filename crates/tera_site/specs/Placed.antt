@@ -1,4 +1,4 @@
--- The parts of a tree at any depth, each with the name of the innermost block that is around it, in the order of `Within`.
+-- The parts of a tree at any depth, each with the name of the innermost block around it, in the order of `Within`.
 use Rattle.std.specs.Prelude.{ℕ, List, [], ◌∷◌, ◌++◌, Option, None, Some}
 use Rattle.tera_ast.specs.Tree.{Expr, Const, Array, Map, Var, GetAttr, GetItem, Slice, Filter, Test, Ternary, ListComprehension, ComponentCall, FunctionCall, UnaryOperation, BinaryOperation}
 use Rattle.tera_ast.specs.Tree.{MaybeExpr, NoExpr, OneExpr, Filters, NoFilters, OneFilter, Args, NoArgs, Arg, Items, NoItems, Item, SpreadItem, Entries, NoEntries, Entry, SpreadEntry}
@@ -9,7 +9,7 @@ use Rattle.tera_tree.specs.Tree.{Output}
 abbrev pub PlacedVal : Type 0
 PlacedVal = Option (List ℕ) × PartVal
 
--- in an expression and in a node; and each of these with what is in it
+-- the parts in an expression and in a node; and each of these with the parts inside it
 abbrev mutual
   pub placed : Option (List ℕ) → Expr → List PlacedVal
   placed b (Const v span) = []
@@ -69,7 +69,7 @@ abbrev mutual
   placed_nodes b NoNodes = []
   placed_nodes b (OneNode n ns) = placed_nodes b ns ++ ((b, NodePart n) ∷ placed_node b n)
 
--- in a part that is in a block, or in none; and all of some parts
+-- the parts inside a part, which is in a block or in none; and some parts with those inside them
 abbrev pub placed_in : Option (List ℕ) → PartVal → List PlacedVal
 placed_in b (NodePart n) = placed_node b n
 placed_in b (ExpressionPart e) = placed b e

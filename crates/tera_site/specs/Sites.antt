@@ -7,7 +7,7 @@ use Rattle.link_groups.specs.Groups.{IsOnCircle, Reaches}
 use Rattle.tera_check.specs.declared.templates.Template.{Template}
 use Rattle.tera_site.specs.Pages.{PageVal, page_of}
 
--- which templates there are: the number of each by its name, and what each says
+-- the templates: the number of each by its name, and what each says
 pub record SiteVal : Type 0 where
   pub named : List ℕ → Option ℕ
   pub pages : List PageVal
@@ -36,7 +36,7 @@ if_any (Some x) = x ∷ []
 abbrev pub numbers_by : (List ℕ → Option ℕ) → List (List ℕ) → List ℕ
 numbers_by named ns = flat_map (λ n. if_any (named n)) ns
 
--- to what each template extends; and to that and what it includes
+-- to the template that each extends; and also to those that it includes
 abbrev pub parent_names : PageVal → List (List ℕ)
 parent_names p = if_any p.parent
 
@@ -51,8 +51,8 @@ leads s = map (λ p. numbers_by s.named (used_names p)) s.pages
 
 -- ---- the templates above one
 
--- The pages that a template extends, directly or not, where it extends that of a name, or none. All of them are known:
--- each is there, and whole; and there is an end.
+-- The pages that a template extends, directly or not, if it extends the template of a name, or none. All of them are
+-- known: each is there, and whole; and there is an end.
 pub data Above (s : SiteVal) : Option (List ℕ) → List PageVal → Type 0 where
   Top : Above s None []
   Below : (n : List ℕ) (i : ℕ) (p : PageVal) (more : List PageVal) → s.named n ≡ Some i → slice_get s.pages i ≡ Some p
@@ -70,10 +70,10 @@ pub record AroundVal : Type 0 where
   pub extends_itself : Bool
   -- the template of this name leads back to it, by what templates extend and include
   pub comes_back : List ℕ → Bool
-  -- whether a template that it extends, directly or not, has a block of this name; none, where not all of these are known
+  -- whether a template that it extends, directly or not, has a block of this name; none if not all of these are known
   pub inherited : Option (List ℕ → Bool)
 
--- which of the blocks of a page are above it too; that is known where it and all above it are whole
+-- which of the blocks of a page are above it too; that is known if the page and all above it are whole
 abbrev pub AreInherited : SiteVal → PageVal → Option (List ℕ → Bool) → Type 0
 AreInherited s p None = p.is_whole ≡ true → (above : List PageVal) → Above s p.parent above → ⊥
 AreInherited s p (Some inherited) =
@@ -88,7 +88,7 @@ pub record IsAround (s : SiteVal) (others : List ℕ → Bool) (number : ℕ) (p
       → (a.comes_back n ≡ true) ↔ ((j : ℕ) × (s.named n ≡ Some j) × Reaches (leads s) j number)
   pub inherited : AreInherited s p a.inherited
 
--- so is it for each of some pages, and of the templates
+-- this holds for each of some pages; and for the templates
 abbrev pub IsSiteOf : List (Option (List ℕ)) → (List ℕ → Bool) → List PageVal → (ℕ → AroundVal) → Type 0
 IsSiteOf names others pages around =
     (number : ℕ) (p : PageVal) → slice_get pages number ≡ Some p → IsAround (site_with names pages) others number p (around number)

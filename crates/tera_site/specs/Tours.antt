@@ -14,7 +14,7 @@ use Rattle.tera_site.specs.declared.above.Step.{Step}
 use Rattle.tera_site.specs.declared.above.Step.TheVariants.{Enter, Leave}
 use Rattle.tera_site.specs.declared.above.Tour.{Tour}
 
--- the pages on the way, by the steps that are left, the next first: those that are still to be left
+-- the pages on the way: those that one of the steps to come, the next first, will leave
 abbrev pub way : List PageVal → List Step → List PageVal
 way ps [] = []
 way ps (Enter n ∷ rest) = way ps rest
@@ -33,13 +33,13 @@ blocks_of ps = flat_map (λ p. p.blocks) ps
 abbrev pub count_of : List ℕ → List PageVal → ℕ
 count_of n ps = count_by (bytes_eq n) (blocks_of ps)
 
--- what is known of a page is so
+-- what is known of a page is right
 abbrev pub AreKnown : SiteVal → List (Option (BTreeSet (Bor (List ℕ)))) → Type 0
 AreKnown s inherited =
     (n : ℕ) (p : PageVal) (names : BTreeSet (Bor (List ℕ))) → slice_get s.pages n ≡ Some p
     → slice_index_or inherited n None ≡ Some names → AreInherited s p (Some (has_name names))
 
--- a page for which that can be known is known, or is below one that is to be entered
+-- if this can be known of a page, it is known, or the page is below one that will be entered
 abbrev pub AreToCome : SiteVal → List (Option (BTreeSet (Bor (List ℕ)))) → List Step → Type 0
 AreToCome s inherited steps =
     (n : ℕ) (p : PageVal) (above : List PageVal) → slice_get s.pages n ≡ Some p → p.is_whole ≡ true → Above s p.parent above
@@ -55,7 +55,7 @@ pub record IsTourOf (s : SiteVal) (steps : List Step) (counts : BTreeMap (Bor (L
 abbrev pub IsTour : SiteVal → Tour → Type 0
 IsTour s t = IsTourOf s (reverse t.steps.items) t.counts t.inherited.items
 
--- the first steps enter the pages that extend none: of those before one, and of all
+-- the first steps enter the pages that extend none: among those before a number, and among all
 pub record AreTopsTo (ps : List PageVal) (at : ℕ) (steps : List Step) : Type 0 where
   pub all : (n : ℕ) (p : PageVal) → n < at → slice_get ps n ≡ Some p → p.parent ≡ None → Contains steps (Enter n)
   pub only : (n : ℕ) (p : PageVal) → Contains steps (Enter n) → slice_get ps n ≡ Some p → p.parent ≡ None

@@ -1,6 +1,6 @@
-//! The blocks that templates above a template have: those that it extends, directly or not.
+//! The blocks of the templates above a template: those that it extends, directly or not.
 //!
-//! One way leads down from each template that extends none to those that extend it. On it the blocks of the templates are
+//! Each way leads down from a template that extends none to those that extend it. The blocks of the templates on it are
 //! counted.
 
 ghost use Rattle.std.specs.Prelude.{◌≡◌, ◌+◌, ◌-◌, ◌++◌, ◌||◌, ◌&&◌, ℕ, List, None, Some, bytes_eq, cond, count_by, map, nat_lt, set, slice_get, slice_index_or, unwrap_or, IfOk, OnOk};
@@ -24,7 +24,7 @@ pub(crate) type Names<'a> = BTreeSet<&'a str>;
 /// How many blocks of each name templates on the way have.
 type Counts<'a> = BTreeMap<&'a str, usize>;
 
-/// What comes next on the way.
+/// A step of the way.
 #[derive(Clone, Copy, Debug)]
 pub(crate) enum Step {
     Enter(usize),
@@ -34,15 +34,15 @@ pub(crate) enum Step {
 /// The way, and what is known of the pages that it led to.
 #[derive(Drop)]
 pub(crate) struct Tour<'a> {
-    /// What comes next is the last.
+    /// The steps still to come; the next one is the last.
     steps: Vec<Step>,
     counts: Counts<'a>,
-    /// Of each page those of its blocks that a page above it has too.
+    /// For each page those of its blocks that a page above it has too, if they are known.
     inherited: Vec<Option<Names<'a>>>,
 }
 
-/// Of each page those of its blocks that a page above it has too; none, where a page above it is not known, or not
-/// whole, or where there is no end.
+/// For each page those of its blocks that a page above it has too. `None` if it or a page above it is not whole, if one
+/// of those is not known, or if they have no end.
 pub(crate) fn all_inherited<'a>(
     alloc: Global,
     pages: &[Page<'a>],
@@ -83,7 +83,7 @@ impl<'a> Tour<'a> {
         })
     }
 
-    // Takes the step, which is the next.
+    // Takes the next step.
     fn take(
         &mut self,
         alloc: Global,
@@ -188,7 +188,7 @@ fn put_known<'a>(known: &mut Vec<Option<Names<'a>>>, number: usize, own: Names<'
     }
 }
 
-// Those of the blocks that are counted.
+// The blocks among these that are counted.
 fn own<'a>(
     alloc: Global,
     blocks: &Vec<&'a str>,
@@ -244,7 +244,7 @@ fn count<'a>(counts: &mut Counts<'a>, blocks: &Vec<&'a str>) -> Result<(), Alloc
     Ok(())
 }
 
-// Counts them no longer.
+// Takes the blocks out of the counts.
 fn count_no_longer<'a>(counts: &mut Counts<'a>, blocks: &Vec<&'a str>) -> Result<(), AllocError>
     ensures { OnOk result ((n : List ℕ) → unwrap_or (under_name counts.new n) 0
         ≡ unwrap_or (under_name counts.old n) 0 - count_by (bytes_eq n) (names_of blocks.now.items)) }
@@ -264,7 +264,7 @@ fn put_count<'a>(counts: &mut Counts<'a>, block: &'a str, count: usize) -> Resul
     Ok(())
 }
 
-// Those that extend the page come next.
+// Puts the pages that extend this one next.
 fn push_below(
     steps: &mut Vec<Step>,
     below: &Vec<Vec<usize>>,

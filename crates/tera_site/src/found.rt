@@ -1,4 +1,4 @@
-//! What is found of names, beside what else is found in the templates.
+//! What is found of names, added to what else is found in the templates.
 
 ghost use Rattle.std.specs.Prelude.{◌≡◌, ◌++◌, IfOk, OnOk, map};
 ghost use Rattle.std.specs.List.{flat_map};
@@ -21,14 +21,14 @@ use tera_check::{Finding, Found, Template, put_in_order};
 /// The names of the templates of a site.
 #[derive(Drop)]
 pub struct SiteNames {
-    /// Of each template its name, if it is in the site.
+    /// For each template its name, if it is in the site.
     pub names: Vec<Option<String>>,
     /// The names of templates that are in the site and were not read.
     pub others: BTreeSet<String>,
 }
 
-/// Adds what is found of the names of templates to what else is found in these, which are in the same order. It is added
-/// to each of the first `checked` that is in the site itself.
+/// Adds what is found of the names of templates to what else is found in the templates, which is in the same order. It
+/// is added to each of the first `checked` templates that is in the site itself.
 pub fn add_names<'s>(
     alloc: Global,
     names: &'s SiteNames,
@@ -120,7 +120,7 @@ pub fn add_found(
     Ok(())
 }
 
-/// The names that the templates use: of each what it extends and includes.
+/// The names that the templates use: for each template what it extends and includes.
 pub fn used_names(alloc: Global, templates: &Vec<Template>) -> Result<Vec<&str>, AllocError>
     ensures { IfOk result (λ v. names_of v.items ≡ flat_map used_names (map page_of templates.now.items)) }
 {

@@ -28,12 +28,12 @@ pub struct KeptPage {
 /// What is around a template, under the names that it uses and those of its blocks.
 #[derive(Debug, Drop, PartialEq, Eq)]
 pub struct Surroundings {
-    /// Those of the names that it uses that templates have.
+    /// The names that it uses and that templates have.
     there: BTreeSet<String>,
-    /// Those of the names that it includes of which the templates lead back to it.
+    /// The names that it includes and whose templates lead back to it.
     back: BTreeSet<String>,
     extends_itself: bool,
-    /// Those of its blocks that no template has that it extends.
+    /// Its blocks that none of the templates that it extends has.
     lacking: BTreeSet<String>,
 }
 
@@ -51,7 +51,7 @@ impl KeptPage {
         })
     }
 
-    /// The page, as those of a site are.
+    /// The page, in the form of those of a site.
     pub fn page(&self, alloc: Global) -> Result<Page<'_>, AllocError>
         ensures { IfOk result (λ p. page_view p ≡ kept_page self.now) }
     {
@@ -65,7 +65,7 @@ impl KeptPage {
 }
 
 impl Surroundings {
-    /// What is around the template of this page, as far as that has a part in what is found of its names.
+    /// What is around the template of this page, as far as it makes a difference to what is found of its names.
     pub fn of(
         alloc: Global,
         around: Around<'_, '_>,
@@ -110,7 +110,7 @@ impl Surroundings {
     }
 }
 
-// Those of the names that templates have.
+// The names among these that templates have.
 fn those_there(
     alloc: Global,
     around: Around<'_, '_>,
@@ -126,7 +126,7 @@ fn those_there(
     Ok(there)
 }
 
-// Those of the names of which the templates lead back.
+// The names among these whose templates lead back.
 fn those_back(
     alloc: Global,
     around: Around<'_, '_>,
@@ -142,7 +142,7 @@ fn those_back(
     Ok(back)
 }
 
-// Those of the blocks that are lacking.
+// The blocks among these that are lacking.
 fn those_lacking(
     alloc: Global,
     around: Around<'_, '_>,
@@ -158,7 +158,7 @@ fn those_lacking(
     Ok(lacking)
 }
 
-// Puts the name, if that is so.
+// Puts the name, if `is_so`.
 fn put_if(
     alloc: Global,
     is_so: bool,

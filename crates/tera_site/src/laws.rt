@@ -13,28 +13,29 @@ ghost use Rattle.tera_site.specs.Sites.{AroundVal};
 
 use crate::kept::{KeptPage, Surroundings};
 
-/// What is found of the names of a tree is by what is around it under these names: whether what it extends and includes is
-/// there, and leads back to it, and which of the blocks around its parts have none above them. All else of other templates
-/// has no part in it.
+/// What is found of the names of a tree depends on what is around it under these names: whether what it extends and
+/// includes is there, and leads back to it, and which of the blocks around its parts have none above them. Nothing else
+/// of other templates matters.
 pub fn by_names()
     ensures { (a b : AroundVal) (span : Span) (o : Output) → AgreeAround o a b →
         names_findings a span o ≡ names_findings b span o }
 {}
 
-/// What is found of the names of a template is by what is around it under the names of its page, whatever else its tree
-/// has. So the same is found by what is kept of that.
+/// What is found of the names of a template depends on what is around it under the names of its page, whatever else its
+/// tree has. So the same is found with what is kept of that.
 pub fn by_page()
     ensures { (a : AroundVal) (t : Template) → due_names (on_page (page_of t) a) t ≡ due_names a t }
 {}
 
-/// Pages are equal exactly where they say the same.
+/// Pages are equal exactly if they say the same.
 pub fn same_page(a: &KeptPage, b: &KeptPage) -> bool
     ensures { Decides result (kept_page a.now ≡ kept_page b.now) }
 {
     a == b
 }
 
-/// What is kept of what is around two pages is equal exactly where it has the same names. By equal ones the same is found.
+/// What is kept of what is around two pages is equal exactly if it has the same names. The same is found with equal
+/// ones.
 pub fn same_surroundings(a: &Surroundings, b: &Surroundings) -> bool
     ensures { Decides result (kept_view a.now ≡ kept_view b.now) }
 {

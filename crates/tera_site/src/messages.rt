@@ -12,21 +12,21 @@ pub(crate) fn missing_template(alloc: Global, name: &str) -> Result<String, Allo
     format!(in alloc; "No template is named `{name}`")
 }
 
-/// That the template of this name, which the template extends, extends it.
+/// That the template of this name, which this template extends, extends it in turn.
 pub(crate) fn circular_extends(alloc: Global, name: &str) -> Result<String, AllocError>
     ensures { IfOk result (λ m. string_bytes m ≡ circular_extends_text name.now) }
 {
     format!(in alloc; "Template `{name}` extends this template, which extends it")
 }
 
-/// That the template of this name, which the template includes, includes or extends it.
+/// That the template of this name, which this template includes, includes or extends it in turn.
 pub(crate) fn circular_include(alloc: Global, name: &str) -> Result<String, AllocError>
     ensures { IfOk result (λ m. string_bytes m ≡ circular_include_text name.now) }
 {
     format!(in alloc; "Template `{name}` includes or extends this template, which includes it")
 }
 
-/// That no template has this block that the template extends.
+/// That none of the templates that the template extends has this block.
 pub(crate) fn undefined_block(alloc: Global, name: &str) -> Result<String, AllocError>
     ensures { IfOk result (λ m. string_bytes m ≡ undefined_block_text name.now) }
 {

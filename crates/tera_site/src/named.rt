@@ -29,7 +29,7 @@ use tera_parser::ast::{
 use tera_parser::value::{Span, Spanned};
 
 /// What is found of the names that the template has, by what is around it, in the order of the places. Nothing is found
-/// that comes of what was written for a fault, or that an ignore of the template silences.
+/// that comes from what was written for a fault, or that an ignore of the template silences.
 pub fn names_found(
     alloc: Global,
     around: Around<'_, '_>,
@@ -110,7 +110,7 @@ fn push_parent(
     }
 }
 
-// Where the name is of the template that it extends; where that is not known, its beginning.
+// Where the name of the template that it extends is; if that is not known, the start of the file.
 fn parent_span(template: &Template) -> Span
     ensures { result ≡ span_if_any template.now.parent_at }
 {
@@ -180,7 +180,7 @@ fn push_include(
     Ok(())
 }
 
-// The blocks at the top of a template that extends another. One that is in another block is shown with that.
+// Adds the blocks at the top of a template that extends another. A block that is in another one is shown with that.
 fn push_blocks(
     alloc: Global,
     findings: &mut Vec<Finding>,
@@ -244,7 +244,7 @@ fn push_block(
     Ok(())
 }
 
-// Parts that are to come, and the name of the block that is around them.
+// Parts that are still to be taken, and the name of the block around them.
 #[derive(Drop)]
 struct Inside<'a> {
     block: Option<&'a str>,
@@ -272,7 +272,7 @@ fn push_parts(
     Err(AllocError)
 }
 
-// Takes the last part, if there is one, after which those in it are to come.
+// Takes the last part, if there is one. The parts inside it come next.
 fn take_last<'a>(
     alloc: Global,
     findings: &mut Vec<Finding>,
@@ -294,7 +294,7 @@ fn take_last<'a>(
     }
 }
 
-// What is in the part is to come next, and then the others.
+// Puts what is in the part next, before the others.
 fn put_inside<'a>(
     alloc: Global,
     left: &mut Vec<Inside<'a>>,
@@ -371,7 +371,7 @@ fn inside_block(alloc: Global, block: &Block) -> Result<Inside<'_>, AllocError>
     })
 }
 
-// Adds what is found in a part by itself, which is in a block or in none.
+// Adds what is found in a part by itself; `block` is the block that it is in.
 fn push_part(
     alloc: Global,
     findings: &mut Vec<Finding>,

@@ -149,7 +149,7 @@ fn put_names<'a>(
     Err(AllocError)
 }
 
-// Takes the part, after which those in it are to come.
+// Takes the part, and puts the parts inside it on the list.
 #[tactic(auto, using(crate::proofs::PageLemmas::taken))]
 fn take<'a>(
     includes: &mut Vec<&'a str>,

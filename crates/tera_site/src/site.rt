@@ -13,7 +13,7 @@ use std::alloc::{AllocError, Global};
 use std::collections::{BTreeMap, BTreeSet};
 use tera_check::Template;
 
-/// Of each name the number of the first template that has it.
+/// For each name the number of the first template that has it.
 type Numbers<'a> = BTreeMap<&'a str, usize>;
 
 /// The templates of a site by their names, and what is known around each.
@@ -24,10 +24,10 @@ pub struct Site<'a> {
     others: &'a BTreeSet<String>,
     /// Whether what a template extends leads back to it, by the numbers of the templates.
     circular: Vec<bool>,
-    /// Of each template the number of its group, by what templates extend and include: those of a group lead to each
-    /// other.
+    /// For each template the number of its group, by what templates extend and include: the templates of a group lead
+    /// to each other.
     groups: Vec<usize>,
-    /// Of each template those of its blocks that a template has that it extends; none, where not all of these are known.
+    /// For each template those of its blocks that a template that it extends has; `None` if not all of these are known.
     inherited: Vec<Option<Names<'a>>>,
 }
 
@@ -36,7 +36,7 @@ pub struct Site<'a> {
 pub enum Around<'s, 'a> {
     /// Around the template of this number in the site.
     In(&'s Site<'a>, usize),
-    /// What was kept of that.
+    /// What was kept of that for a template.
     Kept(&'s Surroundings),
 }
 
@@ -48,8 +48,8 @@ impl<'a> Site<'a> {
     ghost use Rattle.tera_site.specs.Sites.{IsSite, IsSiteOf};
     ghost use Rattle.tera_site.specs.Views.{around_in, around_view, page_view};
 
-    /// The site of these templates. The names are in the order of the templates; one whose name is not known has none.
-    /// Of templates with one name the first counts. There may be others in the site, which were not read.
+    /// The site of these templates. The names are in the order of the templates; a template whose name is not known has
+    /// none. If several have one name, it is the first. `others` are templates of the site that were not read.
     pub fn of(
         alloc: Global,
         names: &'a Vec<Option<String>>,
@@ -63,7 +63,7 @@ impl<'a> Site<'a> {
         Site::of_pages(alloc, names, others, &pages)
     }
 
-    /// The same of the pages of templates.
+    /// The same for the pages of templates.
     pub fn of_pages(
         alloc: Global,
         names: &'a Vec<Option<String>>,
@@ -205,7 +205,7 @@ fn put_named<'a>(numbers: &mut Numbers<'a>, name: &'a str, number: usize) -> Res
     Ok(())
 }
 
-// Of each page the number of what it extends, where that is known.
+// For each page the number of the template that it extends, if that is known.
 fn all_parents(
     alloc: Global,
     numbers: &Numbers<'_>,
@@ -221,7 +221,7 @@ fn all_parents(
     Ok(parents)
 }
 
-// Of each page the numbers of what it extends and includes, where they are known.
+// For each page the numbers of the templates that it extends and includes, as far as they are known.
 fn all_leads(
     alloc: Global,
     numbers: &Numbers<'_>,
