@@ -30,7 +30,7 @@ is_suggestible _ = false
 abbrev pub is_wanted : ℕ → Kind → Bool
 is_wanted left kind = nat_lt 0 left && is_suggestible kind
 
--- what is suggested for each finding: for the first of such findings, so many at most
+-- what is suggested for each finding: for the first of such findings, at most so many
 abbrev pub suggested : ContextVal → ℕ → List Finding → List (Option SuggestionVal)
 suggested x left [] = []
 suggested x left (f ∷ fs) =
@@ -45,7 +45,7 @@ abbrev pub AreCallsIn : Option ParserOutput → List (Bor (Spanned ComponentCall
 AreCallsIn None calls = calls ≡ []
 AreCallsIn (Some o) calls = map seen calls ≡ calls_of (output_view o)
 
--- .. by the calls of a template
+-- .. with the calls of a template
 pub record AreSuggestedIn (catalogue : BTreeMap (String Global) Known) (t : Template) (source : List ℕ) (findings : List Finding) (suggestions : List (Option SuggestionVal)) : Type 0 where
   pub calls : List (Bor (Spanned ComponentCall))
   pub are : AreCallsIn (tree_of t) calls

@@ -1,4 +1,4 @@
--- The calls of a template, and their attributes, by where they are.
+-- The calls of a template, and their attributes, by their places.
 use Rattle.std.specs.Prelude.{ℕ, List, [], ◌∷◌, Bool, false, if◌then◌else◌, Option, None, Some, bytes_eq, map, nat_eq, string_bytes}
 use Rattle.std.specs.Borrow.{Bor}
 use Rattle.std.specs.List.{list_any}

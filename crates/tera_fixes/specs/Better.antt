@@ -14,11 +14,11 @@ has_message findings text = list_any (λ f. bytes_eq (string_bytes f.message) te
 abbrev pub was_found : List Finding → Finding → Bool
 was_found before f = has_message before (string_bytes f.message)
 
--- there are fewer findings than before, and each has the message of one of those
+-- there are fewer findings than before, and each has the message of one before
 abbrev pub are_better : List Finding → List Finding → Bool
 are_better before after = nat_lt (length after) (length before) && list_all (was_found before) after
 
--- the template has a tree, and so many findings fewer than before, which are better
+-- the template has a tree, and its findings are better than before: so many fewer
 pub record HasFewer (known : List ℕ → Option KnownVal) (open_text : Bool) (number : ℕ) (t : Template) (before : List Finding) (fewer : ℕ) : Type 0 where
   pub tree : is_ok t.parsed ≡ true
   pub after : List Finding

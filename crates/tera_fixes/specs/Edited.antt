@@ -1,4 +1,4 @@
--- A text with what was suggested for it.
+-- A text with the suggestions for it.
 use Rattle.std.specs.Prelude.{ℕ, List, [], ◌∷◌, ◌++◌, Option, None, Some, Bool, ◌&&◌, if◌then◌else◌, drop, map, nat_le, slice_range, string_bytes}
 use Rattle.std.specs.List.Sorted.{IsSortedByKey}
 use Rattle.std.specs.Ordering.{nat_cmp}
@@ -32,7 +32,7 @@ abbrev pub fits : List ℕ → ℕ → Part → Bool
 fits text from p =
     nat_le from p.start && (nat_le p.start p.end && (is_boundary text p.start && is_boundary text p.end))
 
--- the text from a byte on, with each of the edits that is after those before it
+-- the text from a byte on, with each edit that does not overlap the one before it
 abbrev pub edited : List ℕ → ℕ → List EditVal → List ℕ
 edited text from [] = drop from text
 edited text from (e ∷ es) =

@@ -8,14 +8,14 @@ use Rattle.tera_settings.specs.Near.{distance}
 abbrev pub is_close : List ℕ → ℕ → Bool
 is_close name far = nat_le far (length (chars name) / 3)
 
--- another name to which no more edits lead than to this one
+-- another name that no more edits lead to than to this one
 abbrev pub is_rival : List ℕ → List ℕ → ℕ → List ℕ → Bool
 is_rival word name far other = if bytes_eq other name then false else nat_le (distance word other) far
 
 abbrev pub has_rival : List ℕ → List (List ℕ) → List ℕ → ℕ → Bool
 has_rival word names name far = list_any (is_rival word name far) names
 
--- the name is the one that is meant: at most a third of it differs, and every other name is farther
+-- the name is meant: at most a third of its characters differ, and those of every other name differ more
 abbrev pub is_meant : List ℕ → List (List ℕ) → List ℕ → Bool
 is_meant word names name =
     is_close name (distance word name) && not (has_rival word names name (distance word name))

@@ -1,4 +1,4 @@
--- The names that there are.
+-- The names that may be meant.
 use Rattle.std.specs.Prelude.{ℕ, List, Bool, not, map, String, string_bytes}
 use Rattle.std.specs.declared.alloc.Global.{Global}
 use Rattle.std.specs.BTreeMap.{BTreeMap}
@@ -14,7 +14,7 @@ component_names catalogue = map string_bytes (keys_of catalogue.entries)
 abbrev pub parameter_names : Definition → List (List ℕ)
 parameter_names d = map (λ a. a.0) d.arguments
 
--- the parameters of a component for which a call passes nothing by their names
+-- the parameters of a component that a call has no attribute for
 abbrev pub free_of : CallVal → List (List ℕ) → List (List ℕ)
 free_of call names = filter (λ name. not (passes call name)) names
 

@@ -18,7 +18,7 @@ use Rattle.tera_fixes.specs.declared.parts.Part.{Part}
 use Rattle.tera_fixes.specs.declared.suggestions.Context.{Context}
 use Rattle.tera_fixes.specs.declared.suggestions.Suggestion.{Suggestion}
 
--- the same text in the place of each of some parts, and what that does
+-- one text that replaces each of some parts, and a title that says so
 pub record SuggestionVal : Type 0 where
   pub title : List ℕ
   pub parts : List Part
@@ -27,12 +27,12 @@ pub record SuggestionVal : Type 0 where
 abbrev pub suggestion_view : Suggestion → SuggestionVal
 suggestion_view s = record { title = string_bytes s.title; parts = s.parts.items; text = string_bytes s.text }
 
--- a name in the place of the parts, each of which is a word
+-- to write a name in place of the parts, each of which is a word
 abbrev pub renaming : List Part → List ℕ → List ℕ → SuggestionVal
 renaming parts word name =
     record { title = codes "Replace `" ++ (word ++ (codes "` with `" ++ (name ++ codes "`"))); parts = parts; text = name }
 
--- nothing in the place of an argument of the name
+-- to remove an argument of this name
 abbrev pub removal : List ℕ → Part → SuggestionVal
 removal name part = record { title = codes "Remove this `" ++ (name ++ codes "`"); parts = part ∷ []; text = [] }
 

@@ -17,11 +17,11 @@ use tera_check::{Catalogue, Finding, Kind, Template, calls_of, tree_of};
 use tera_parser::ast::ComponentCall;
 use tera_parser::value::Spanned;
 
-/// For how many findings of a template something is suggested at most, as many names may be compared for each of them.
+/// The most findings of a template for which something is suggested, since many names may be compared for each.
 const MOST: usize = 100;
 
-/// What is suggested for each of the findings of the template, which has this source: for the first 100 of a kind for which
-/// something may be suggested, and nothing for all others.
+/// What is suggested for each of the findings of the template, which has this source: for the first 100 of the kinds
+/// that may have a suggestion, and nothing for the others.
 pub fn suggestions_in(
     alloc: Global,
     catalogue: &Catalogue<'_>,
@@ -36,7 +36,7 @@ pub fn suggestions_in(
     suggestions_by(alloc, &mut meanings, catalogue, template, source, findings)
 }
 
-/// What `suggestions_in` gives, but a name that is in `meanings` is not compared again. Names of components that no
+/// The same as `suggestions_in`, but a name that is in `meanings` is not compared again. Names of components that no
 /// template defines are added to it. At first it is empty, and all calls with it have the same components.
 pub fn suggestions_by(
     alloc: Global,
@@ -89,7 +89,8 @@ fn suggestions_for(
     Ok(suggestions)
 }
 
-// Adds what is suggested for the finding, if something may be and so many are left. The answer is how many are left then.
+// Adds what is suggested for the finding, if its kind may have a suggestion and `left` is not 0. The result is how many
+// are left then.
 fn push_if_left(
     alloc: Global,
     suggestions: &mut Vec<Option<Suggestion>>,
@@ -121,14 +122,14 @@ fn is_wanted(left: usize, kind: Kind) -> bool
     0 < left && is_suggestible(kind)
 }
 
-/// Whether something may be suggested for more of the findings than it is suggested for.
+/// Whether more of the findings may have a suggestion than get one.
 pub fn are_too_many(findings: &[&Finding]) -> bool
     ensures { result ≡ are_too_many (map (λ f. f.now) findings.now) }
 {
     suggestible_count(findings) > MOST
 }
 
-// For how many of the findings something may be suggested.
+// How many of the findings may have a suggestion.
 fn suggestible_count(findings: &[&Finding]) -> usize
     ensures { result ≡ length (filter (λ f. is_suggestible f.kind) (map (λ f. f.now) findings.now)) }
 {
@@ -138,7 +139,7 @@ fn suggestible_count(findings: &[&Finding]) -> usize
         .count()
 }
 
-// Whether something may be suggested for a finding of the kind.
+// Whether a finding of the kind may have a suggestion.
 fn is_suggestible(kind: Kind) -> bool
     ensures { result ≡ is_suggestible kind }
 {

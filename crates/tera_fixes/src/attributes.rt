@@ -1,4 +1,4 @@
-//! The calls of a template, and their attributes, by where they are.
+//! The calls of a template, and their attributes, by their places.
 
 ghost use Rattle.std.specs.Prelude.{◌≡◌, map};
 ghost use Rattle.std.specs.Option.{option_map};

@@ -10,10 +10,10 @@ use std::alloc::{AllocError, Global};
 use std::collections::BTreeSet;
 use tera_check::{Catalogue, Finding, Template, findings_of};
 
-/// How many findings fewer the template of this number has than were found before in another text of it; none if it has
-/// no tree, has as many findings, or has one whose message none of those has.
+/// How many findings fewer the template of this number has than `before`, which were found in another text of it.
+/// `None` if it has no tree, has as many findings, or has one with a message that none of `before` has.
 ///
-/// The catalogue is that of the other text: it counts for this one, if both define the same components.
+/// The catalogue is that of the other text. It is right for this one if both define the same components.
 pub fn fewer_in(
     alloc: Global,
     catalogue: &Catalogue<'_>,
@@ -35,7 +35,7 @@ pub fn fewer_in(
     }
 }
 
-// Whether there are fewer than before, and each has the message of one of those.
+// Whether there are fewer than before, and each has the message of one before.
 fn are_better(alloc: Global, before: &[Finding], after: &[Finding]) -> Result<bool, AllocError>
     ensures { IfOk result (λ better. better ≡ are_better before.now after.now) }
 {
@@ -45,7 +45,7 @@ fn are_better(alloc: Global, before: &[Finding], after: &[Finding]) -> Result<bo
     were_found(alloc, before, after)
 }
 
-// Whether each has the message of one of those that were found before.
+// Whether each has the message of one that was found before.
 fn were_found(alloc: Global, before: &[Finding], after: &[Finding]) -> Result<bool, AllocError>
     ensures { IfOk result (λ were. were ≡ list_all (was_found before.now) after.now) }
 {

@@ -1,4 +1,4 @@
-//! The components that names of calls were meant to be.
+//! The components that the names of calls were meant to be.
 
 ghost use Rattle.std.specs.Prelude.{◌≡◌, IfOk};
 ghost use Rattle.tera_fixes.specs.Components.{AreMeanings, meaning_view};
@@ -11,11 +11,11 @@ use std::alloc::{AllocError, Global};
 use std::collections::BTreeMap;
 use tera_check::Catalogue;
 
-/// What is meant by the words that were looked for among the names of the components: one of these, or none.
+/// What is meant by the words that were compared with the names of the components: one of the names, or none.
 pub type Meanings = BTreeMap<String, Option<String>>;
 
-/// The name of the component that is meant by the word, if there is one. The word is compared with the names only if it was
-/// not looked for before.
+/// The name of the component that is meant by the word, if there is one. The word is compared with the names only if it
+/// is not in `meanings`.
 pub(crate) fn meant_component(
     alloc: Global,
     catalogue: &Catalogue<'_>,
@@ -36,7 +36,7 @@ pub(crate) fn meant_component(
     Ok(name)
 }
 
-// The same by a comparison with each name.
+// The same, by a comparison with each name.
 fn meant_among_all(
     alloc: Global,
     catalogue: &Catalogue<'_>,

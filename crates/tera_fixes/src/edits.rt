@@ -20,8 +20,8 @@ struct Edit<'s> {
     text: &'s str,
 }
 
-/// The text with what the suggestions say, from its beginning on. What begins in a part that another suggestion changes is
-/// left out.
+/// The text with the suggestions, from its beginning on. If a part begins in a part that another suggestion changes, it
+/// is not changed.
 pub fn edited(
     alloc: Global,
     text: &str,
@@ -75,7 +75,7 @@ fn push_edits<'s>(edits: &mut Vec<Edit<'s>>, suggestion: &'s Suggestion) -> Resu
     Ok(())
 }
 
-// The text with the edits, each of which is made if it is after those before it.
+// The text with the edits. An edit is made only if it does not overlap the one before it.
 fn with_edits(alloc: Global, text: &str, edits: &Vec<Edit<'_>>) -> Result<String, AllocError>
     ensures { IfOk result (λ t. string_bytes t ≡ edited text.now 0 (map edit_view edits.now.items)) }
 {
@@ -88,8 +88,8 @@ fn with_edits(alloc: Global, text: &str, edits: &Vec<Edit<'_>>) -> Result<String
     Ok(whole)
 }
 
-// Adds the text from the byte up to the part, and the new text, if the part is not before the byte. The answer is the byte
-// with which the text goes on.
+// Adds the text from the byte up to the part, and the new text, if the part does not begin before the byte. The result
+// is the byte from which the text is still to be added.
 fn push_edit(
     whole: &mut String,
     text: &str,

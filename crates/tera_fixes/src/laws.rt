@@ -16,14 +16,14 @@ pub fn parts_are_in_the_text()
         suggestion_of x f ≡ Some s → All (IsPartOf x.source) s.parts }
 {}
 
-/// In the place of a component that no template defines the name of one is suggested that there is.
+/// For a component that no template defines, the name of a defined component is suggested.
 pub fn suggested_components_exist()
     ensures { (x : ContextVal) (span : Span) (text : List ℕ) (notes : List NoteVal)
         (s : SuggestionVal) → suggestion_of x (FindingOf UndefinedComponent span text notes) ≡ Some s →
         Contains x.names s.text }
 {}
 
-/// In the place of an argument that a component does not have the name of a parameter is suggested that it has.
+/// For an argument that a component does not have, the name of one of its parameters is suggested.
 pub fn suggested_arguments_exist()
     ensures { (x : ContextVal) (span : Span) (text : List ℕ) (notes : List NoteVal)
         (s : SuggestionVal) → suggestion_of x (FindingOf UnknownArgument span text notes) ≡ Some s →

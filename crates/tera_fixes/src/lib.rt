@@ -1,15 +1,15 @@
-//! What may have been meant where something is found in a template, and the text in which that is put right.
+//! What may have been meant where something is found in a template, and the text with it.
 //!
 //! It takes what is known around a finding and the text of the template, and suggests another text for parts of it
-//! (`suggestion_of`, and for all findings of a template `suggestions_in`). For several templates each name is compared with
-//! the others only once (`suggestions_by`, `Meanings`). It gives the text with suggestions (`edited`), and says whether a
-//! template that was read from it is better (`fewer_in`). It depends on `tera_check`, whose findings it does not change,
-//! and on `tera_settings` for what a word resembles.
+//! (`suggestion_of`, and for all findings of a template `suggestions_in`). For several templates each name is compared
+//! with the others only once (`suggestions_by`, `Meanings`). It gives the text with suggestions (`edited`), and says
+//! whether a template that was read from it is better (`fewer_in`). It depends on `tera_check`, whose findings it does
+//! not change, and on `tera_settings` for what a word resembles.
 //!
 //! In the order of reading: specs `Meant` and `meant`, the name that a word was meant to be; specs `Parts` and `parts`,
 //! where a text has a word; specs `Attributes` and `attributes`; specs `Names` and `names`; specs `Components` and
-//! `components`; specs `Suggestions` and `suggestions`; specs `All` and `all`; specs `Edited` and `edits`; specs `Better`
-//! and `better`; specs `Laws` and `laws`.
+//! `components`; specs `Suggestions` and `suggestions`; specs `All` and `all`; specs `Edited` and `edits`; specs
+//! `Better` and `better`; specs `Laws` and `laws`.
 #![tactic(auto)]
 
 mod all;

@@ -9,14 +9,14 @@ use std::alloc::{AllocError, Global};
 use strsim::osa_distance;
 use tera_settings::nearest;
 
-// The longest word that means a name, and the longest name that is meant, in characters: the steps of a comparison are as
-// many as the product of both.
+// The longest word and the longest name that are compared, in characters: a comparison takes as many steps as the
+// product of both.
 const LONGEST_WORD: usize = 100;
 
 const LONGEST_NAME: usize = 200;
 
-/// The name that is meant by the word, if there is one: at most a third of it differs, and every other name is farther. A
-/// long word means no name, and a long name counts as if it were not there.
+/// The name that is meant by the word, if there is one: at most a third of its characters differ, and those of every
+/// other name differ more. A word of more than 100 characters means no name, and no word means a name of more than 200.
 pub(crate) fn meant<'n>(
     alloc: Global,
     word: &str,
@@ -31,7 +31,7 @@ pub(crate) fn meant<'n>(
     meant_among(alloc, word, short.as_slice())
 }
 
-// Those of the names that are not too long.
+// The names that are not too long.
 fn short_of<'n>(alloc: Global, names: &[&'n str]) -> Result<Vec<&'n str>, AllocError>
     ensures { IfOk result (λ short. texts short.items ≡ filter (has_at_most 200) (texts names.now)) }
 {
@@ -44,14 +44,14 @@ fn short_of<'n>(alloc: Global, names: &[&'n str]) -> Result<Vec<&'n str>, AllocE
     Ok(short)
 }
 
-// Whether the text has so many characters at most.
+// Whether the text has at most so many characters.
 fn has_at_most(most: usize, text: &str) -> bool
     ensures { result ≡ has_at_most most text.now }
 {
     text.chars().count() <= most
 }
 
-// The name that is meant, if each may be.
+// The name that is meant, whatever the lengths.
 fn meant_among<'n>(
     alloc: Global,
     word: &str,
@@ -73,14 +73,14 @@ fn meant_among<'n>(
     Ok(Some(name))
 }
 
-// Whether so many edits change at most a third of the name.
+// Whether `far` edits change at most a third of the characters of the name.
 fn is_close(name: &str, far: usize) -> bool
     ensures { result ≡ is_close name.now far }
 {
     far <= name.chars().count() / 3
 }
 
-// Whether another name is as near to the word as this one, to which so many edits lead.
+// Whether another name is as near to the word as this one, which is `far` edits away.
 fn has_rival(
     alloc: Global,
     word: &str,

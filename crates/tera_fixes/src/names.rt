@@ -1,4 +1,4 @@
-//! The names that there are.
+//! The names that may be meant.
 
 ghost use Rattle.std.specs.Prelude.{◌≡◌, ◌++◌, ◌∷◌, [], IfOk, OnOk};
 ghost use Rattle.tera_settings.specs.Values.{texts};
@@ -25,7 +25,7 @@ pub(crate) fn component_names<'c>(
     Ok(names)
 }
 
-/// The names of the parameters for which the call passes nothing by their names.
+/// The names of the parameters that the call has no attribute for.
 pub(crate) fn free_parameters<'d>(
     alloc: Global,
     definition: &'d ComponentDefinition,

@@ -12,10 +12,10 @@ pub struct Part {
     pub end: usize,
 }
 
-// What may be between the name of a component or an argument and the place of a finding, beside white space.
+// What may be between the name of a component or an argument and the place of a finding, apart from white space.
 const MARKS: &[u8] = b"<>={(";
 
-// What may be after the value of an argument, beside white space.
+// What may be after the value of an argument, apart from white space.
 const CLOSING: &[u8] = b")}";
 
 /// Where the text has the word, if only marks and white space are between the byte and the word.
@@ -63,8 +63,8 @@ fn has_equals(text: &str, start: usize, end: usize) -> bool
     between.contains(&b'=')
 }
 
-/// The argument that begins with the byte `start`, and whose value ends with the byte `end`: up to the brackets around the
-/// value, and white space.
+/// The argument that begins with the byte `start`, and whose value ends with the byte `end`: up to the brackets around
+/// the value, and white space.
 pub(crate) fn argument_part(text: &str, start: usize, end: usize) -> Option<Part>
     ensures { result ≡ argument_part text.now start end }
 {
@@ -76,7 +76,7 @@ pub(crate) fn argument_part(text: &str, start: usize, end: usize) -> Option<Part
     }
 }
 
-// Where an argument ends whose value ends with the byte.
+// Where an argument ends, if its value ends with the byte.
 fn argument_end(text: &str, byte: usize) -> Option<usize>
     ensures { result ≡ argument_end text.now byte }
 {
@@ -98,7 +98,7 @@ fn between_characters(text: &str, byte: usize) -> Option<usize>
     }
 }
 
-// Where the text has the word that is to end with this byte.
+// Where the text has the word, if that ends with this byte.
 fn part_ending(text: &str, word: &str, end: usize) -> Option<Part>
     ensures { result ≡ part_ending text.now word.now end }
 {
@@ -109,7 +109,7 @@ fn part_ending(text: &str, word: &str, end: usize) -> Option<Part>
     }
 }
 
-// Where the text has the word that is to begin with this byte.
+// Where the text has the word, if that begins with this byte.
 fn part_at(text: &str, word: &str, start: usize) -> Option<Part>
     ensures { result ≡ part_at text.now word.now start }
 {
@@ -139,7 +139,7 @@ pub(crate) fn is_boundary(text: &str, at: usize) -> bool
     text.is_char_boundary(at)
 }
 
-// How many marks and how much white space are from the byte on.
+// How many bytes from this one on are marks or white space.
 fn marks_len(text: &str, at: usize) -> usize
     requires { at ≤ length text.now }
     ensures count { result ≡ prefix_len is_mark (drop at text.now) }

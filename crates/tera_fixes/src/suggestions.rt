@@ -20,12 +20,12 @@ use tera_check::{Catalogue, Finding, Kind};
 use tera_parser::ast::ComponentCall;
 use tera_parser::value::{Span, Spanned};
 
-/// What may have been meant where something is found: the same text in the place of each of some parts.
+/// What may have been meant where something is found: one text that replaces each of some parts.
 #[derive(Debug, Drop)]
 pub struct Suggestion {
     /// What it does, as ``Replace `labl` with `label` ``.
     pub title: String,
-    /// One, or of a call with a body two: in the order of the text, and apart.
+    /// One part, or two for a call with a body, in the order of the text. They do not overlap.
     pub parts: Vec<Part>,
     pub text: String,
 }
@@ -33,7 +33,7 @@ pub struct Suggestion {
 /// What is known around a finding.
 #[derive(Clone, Copy)]
 pub struct Context<'c, 'a> {
-    /// The components that there are.
+    /// The components that the templates define.
     pub catalogue: &'c Catalogue<'a>,
     /// The calls of the template ([`tera_check::calls_of`]).
     pub calls: &'c [&'c Spanned<ComponentCall>],
@@ -43,12 +43,12 @@ pub struct Context<'c, 'a> {
 
 /// What may have been meant where this is found in the template, if that is known.
 ///
-/// - Of a component that no template defines: the name of one that there is.
-/// - Of an argument that the component does not have: the name of a parameter for which the call passes nothing.
-/// - Of an argument that is given again, so that it does not count: nothing in the place of it.
+/// - For a component that no template defines: the name of one that some template defines.
+/// - For an argument that the component does not have: the name of a parameter that the call has no attribute for.
+/// - For an argument that is given again, so that it does not count: nothing in its place.
 ///
-/// A name is suggested if at most a third of it differs, and every other name is farther. Each part is the name that is
-/// replaced, or an argument that is removed, by the text of the template.
+/// A name is suggested if at most a third of its characters differ, and those of every other name differ more. Each
+/// part is the name that is replaced, or an argument that is removed, by the text of the template.
 pub fn suggestion_of(
     alloc: Global,
     context: Context<'_, '_>,
@@ -61,7 +61,7 @@ pub fn suggestion_of(
     suggestion_by(alloc, &mut meanings, context, finding)
 }
 
-/// What `suggestion_of` gives, but a name that is in `meanings` is not compared again. The name of a component that no
+/// The same as `suggestion_of`, but a name that is in `meanings` is not compared again. The name of a component that no
 /// template defines is added to it. At first it is empty, and all calls with it have the same components.
 pub fn suggestion_by(
     alloc: Global,
@@ -158,7 +158,7 @@ fn argument_for(
     }
 }
 
-// The parameter of the component that is meant by the name of the attribute.
+// The parameter of the component that the name of the attribute was meant to be.
 fn meant_parameter<'c>(
     alloc: Global,
     catalogue: &'c Catalogue<'_>,
@@ -195,7 +195,7 @@ fn removal_for(
     }
 }
 
-// The name in the place of the parts, each of which is the word.
+// The suggestion to write the name in place of the parts, each of which is the word.
 fn renaming(
     alloc: Global,
     word: &str,
@@ -211,7 +211,7 @@ fn renaming(
     })
 }
 
-// Nothing in the place of the argument of the name.
+// The suggestion to remove the argument of this name.
 fn removal(alloc: Global, name: &str, part: Part) -> Result<Suggestion, AllocError>
     ensures { IfOk result (λ s. suggestion_view s ≡ removal name.now part) }
 {
