@@ -15,7 +15,7 @@ escaped_character c =
     else (if c == 13 then codes "%0D"
     else (if c == 10 then codes "%0A" else encode_utf8 c))
 
--- .. of a property, which a colon or a comma would end
+-- .. of a property, where a colon or a comma is escaped, as it would end that
 abbrev pub property_character : ℕ → List ℕ
 property_character c =
     if c == 58 then codes "%3A"

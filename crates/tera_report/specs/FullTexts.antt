@@ -1,4 +1,4 @@
--- A finding as people read it.
+-- A finding as text for people.
 use Rattle.std.specs.Prelude.{ℕ, ◌==◌, if◌then◌else◌, List, [], ◌∷◌, ◌++◌, flat_map, Option, Some, None, codes, decimal}
 use Rattle.line_text.specs.Line.{on_one_line}
 use Rattle.tera_base.specs.declared.utils.Span.{Span}
@@ -16,7 +16,7 @@ use Rattle.terminal_text.specs.declared.style.Part.{Part}
 use Rattle.terminal_text.specs.declared.style.Part.TheVariants as parts
 use Rattle.terminal_text.specs.declared.style.Style.{Style}
 
--- a message by what it is: its word, with the rule of a finding, and its colour
+-- the word for a role, with the rule of a finding, and its colour
 abbrev pub word_of : Role → List ℕ
 word_of (Finding kind severity) = label_of kind severity
 word_of Note = codes "note"
@@ -39,7 +39,7 @@ place_text file place = on_one_line file ++ (codes ":" ++ (decimal place.line ++
 abbrev pub marked_of : Span → Marked
 marked_of s = record { line = s.start_line; start = s.start_col; end = if s.end_line == s.start_line then Some s.end_col else None }
 
--- a message: where, how grave, and what
+-- a message: its place, its role, and its text
 abbrev pub message_line : Style → Role → List ℕ → Span → List ℕ → List ℕ
 message_line style role file span text =
     styled style parts.Place (place_text file (place_of span)) ++ (codes " " ++ (styled style (part_of role) (word_of role) ++ (codes ": " ++ (on_one_line text ++ 10 ∷ []))))
@@ -48,7 +48,7 @@ message_line style role file span text =
 abbrev pub help_line : Style → List ℕ → Span → List ℕ → List ℕ
 help_line style file span text = message_line style Help file span text
 
--- with the line that it is about, where the source of the file is known
+-- with the line that it is about, if the source of the file is known
 abbrev pub message : Style → (List ℕ → Option (List ℕ)) → Role → List ℕ → Span → List ℕ → List ℕ
 message style known role file span text =
     message_line style role file span text ++ excerpt style (part_of role) (marked_of span) (line_at (known file) span.start_line)
@@ -61,7 +61,7 @@ unfoldable pub full_text : Style → (List ℕ → Option (List ℕ)) → List �
 full_text style known file (FoundAs kind severity span text notes) =
     message style known (Finding kind severity) file span text ++ flat_map (note_text style known) notes
 
--- without colours and sources: a line says where, what it is called, and what
+-- without colours and sources: a line has the place, the label and the text
 abbrev pub line_of : List ℕ → Place → List ℕ → List ℕ → List ℕ
 line_of file place label text =
     on_one_line file ++ ((codes ":" ++ (decimal place.line ++ (codes ":" ++ (decimal place.column ++ (codes ": " ++ (label ++ codes ": ")))))) ++ (on_one_line text ++ 10 ∷ []))

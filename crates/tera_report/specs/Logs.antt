@@ -9,7 +9,7 @@ use Rattle.tera_check.specs.Findings.{NoteVal, NoteOf, FindingVal, FoundAs, kind
 use Rattle.tera_check.specs.declared.finding.Kind.{Kind}
 use Rattle.tera_report.specs.Annotations.{column_of}
 
--- where a member begins that is an object, and one that is an array
+-- the beginning of a member that is an object, and of one that is an array
 abbrev pub object_begin : List ℕ → List Token
 object_begin name = key name ∷ begin_object ∷ []
 
@@ -26,7 +26,7 @@ array_member name values = array_begin name ++ (values ++ (end_array ∷ []))
 abbrev pub object : List Token → List Token
 object members = (begin_object ∷ []) ++ (members ++ (end_object ∷ []))
 
--- a line and a column, each by its name
+-- a line and a column, under these names
 abbrev pub corner : List ℕ → ℕ → List ℕ → ℕ → List Token
 corner line_name line column_name col = number_member line_name line ++ number_member column_name (column_of col)
 
@@ -50,7 +50,7 @@ message text = object_member (codes "message") (text_member (codes "text") text)
 abbrev pub locations : List ℕ → Span → List Token
 locations file s = array_member (codes "locations") (object (place file s))
 
--- what explains a finding
+-- a note that explains a finding
 unfoldable pub note_object : NoteVal → List Token
 note_object (NoteOf file span text) = object (place file span ++ message text)
 
@@ -75,13 +75,13 @@ unread_rule = object (text_member (codes "id") (codes "unread"))
 abbrev pub rules : List Token
 rules = array_member (codes "rules") (flat_map rule all_kinds ++ unread_rule)
 
--- what finds: the program, with the kinds of what it finds
+-- the tool: the program, with the kinds of what it finds
 abbrev pub tool : List ℕ → List Token
 tool version =
     object_member (codes "tool") (object_member (codes "driver")
     (text_member (codes "name") (codes "tera") ++ (text_member (codes "version") version ++ rules)))
 
--- a log of one run, up to its results: the form that it has, and the run, up to them
+-- a log of one run, up to its results: the version of SARIF, and the tool
 unfoldable pub log_begin : List ℕ → List Token
 log_begin version =
     begin_object ∷ (text_member (codes "$schema") (codes "https://json.schemastore.org/sarif-2.1.0.json")

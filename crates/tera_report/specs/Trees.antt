@@ -1,4 +1,4 @@
--- The tree of a template, or of what it is read as, beside its faults, as JSON.
+-- The tree of a template, or of what it is read as, with its faults, as JSON.
 use Rattle.std.specs.Prelude.{◌≡◌, ℕ, Bool, true, false, List, [], ◌∷◌, ◌++◌, Option, None, Some, Result, Ok, Err, codes, map, option_map, string_bytes}
 use Rattle.std.specs.List.{flat_map}
 use Rattle.json.specs.Print.{print}
@@ -19,8 +19,7 @@ use Rattle.tera_tree.specs.declared.outputs.ParserOutput.{ParserOutput}
 use Rattle.tera_tree_json.specs.TreeJson.{output_json}
 use Rattle.tera_report.specs.Logs.{array_member}
 
--- whether a template has more faults than are known of it: nothing is read of it beside its first fault, or the work was
--- cut short
+-- whether a template has more faults than are known: only its first fault was looked for, or the work was cut short
 abbrev pub has_more_by : Result ParserOutput Error → Option Mended → Bool
 has_more_by (Ok output) mended = false
 has_more_by (Err error) None = true
@@ -38,13 +37,14 @@ tree_tokens (Some output) = json_tokens (output_json output)
 abbrev pub faults_member : List ℕ → List FindingVal → List Token
 faults_member file faults = array_member (codes "faults") (flat_map (object_of file) faults)
 
--- an object of a tree, the faults in a file, and whether there are more
+-- an object with a tree, the faults in a file, and whether there are more
 unfoldable pub tree_object : List ℕ → Option Output → List FindingVal → Bool → List Token
 tree_object file tree faults more =
     begin_object ∷ key (codes "tree") ∷ (tree_tokens tree
     ++ (faults_member file faults ++ (key (codes "more") ∷ boolean more ∷ end_object ∷ [])))
 
--- a line of JSON: the tree that there is of a template, its faults in the order of their places, and whether there are more
+-- a line of JSON: the tree of a template, if there is one, its faults in the order of their places, and whether there
+-- are more
 pub record IsTreeLine (template : Template) (text : List ℕ) : Type 0 where
   pub faults : List Finding
   pub in_order : IsInOrder faults

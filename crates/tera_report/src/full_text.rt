@@ -1,4 +1,4 @@
-//! A finding as people read it.
+//! A finding as text for people.
 
 ghost use Rattle.std.specs.Prelude.{◌≡◌, ◌++◌, ℕ, List, map, flat_map, string_bytes, IfOk, OnOk};
 ghost use Rattle.tera_check.specs.Findings.{finding_view, note_view};
@@ -12,9 +12,9 @@ use tera_base::Span;
 use tera_check::{Finding, Note, Place};
 use terminal_text::{Marked, Part, Sources, Style, push_excerpt};
 
-/// Adds the line of the finding, `FILE:LINE:COLUMN: error[RULE]: MESSAGE` or `.. warning[RULE]: ..`, and those of its
-/// notes, each with the line of the source below that it is about, where that is known. A text is on one line, as
-/// `push_on_one_line` has it.
+/// Adds the line of the finding, `FILE:LINE:COLUMN: error[RULE]: MESSAGE` or `.. warning[RULE]: ..`, and the lines of
+/// its notes. Below each is the line of the source that it is about, if that is known. A text is on one line, escaped
+/// by `push_on_one_line`.
 pub fn push_full(
     alloc: Global,
     to: &mut String,
@@ -37,7 +37,7 @@ pub fn push_full(
     push_notes(alloc, to, style, sources, &finding.notes)
 }
 
-/// Adds the line of what may have been meant where a finding is, `FILE:LINE:COLUMN: help: TEXT`.
+/// Adds the line with what may have been meant, `FILE:LINE:COLUMN: help: TEXT`.
 pub fn push_help(
     alloc: Global,
     to: &mut String,
@@ -58,7 +58,7 @@ pub fn push_help(
     push_line(alloc, to, style, &message)
 }
 
-/// Adds the lines of the finding and of its notes alone, without colours.
+/// Adds only the lines of the finding and of its notes, without colours and without sources.
 #[tactic(auto, using(crate::proofs::Plain::plain_without))]
 pub fn push_lines(
     alloc: Global,

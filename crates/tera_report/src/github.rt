@@ -1,4 +1,4 @@
-//! Findings as workflow commands, which GitHub shows beside the lines of a change.
+//! Findings as workflow commands, which GitHub shows next to the lines of a change.
 
 ghost use Rattle.std.specs.Prelude.{◌≡◌, ◌++◌, string_bytes, IfOk, OnOk};
 ghost use Rattle.line_text.specs.Line.{on_one_line};
@@ -12,8 +12,8 @@ use tera_check::{Finding, Severity};
 
 /// Adds the line `::error file=..,line=..,col=..,endLine=..,endColumn=..,title=..::MESSAGE`, or `::warning ..`, whose
 /// title is the name of the kind. Lines and columns count from 1, columns in characters, and `endColumn` is the one
-/// after the last. The message is on one line, as `push_on_one_line` has it; the file is named as it is. Notes are left
-/// out: a command has one place.
+/// after the last. The message is on one line, escaped by `push_on_one_line`; the file is named as it is. Notes are
+/// left out, as a command has one place.
 pub fn push_annotation(
     alloc: Global,
     to: &mut String,
@@ -35,7 +35,7 @@ pub fn push_annotation(
     Ok(())
 }
 
-// The command up to the file.
+// The command, up to the name of the file.
 pub(crate) fn command(severity: Severity) -> &'static str
     ensures { result.now ≡ command_of severity }
 {
@@ -53,14 +53,14 @@ fn span_of(alloc: Global, span: &Span) -> Result<String, AllocError>
     format!(in alloc; ",line={line},col={col},endLine={end},endColumn={end_col}")
 }
 
-// The column from 1, of one from 0.
+// The column counted from 1, for one counted from 0.
 pub(crate) fn column(col: usize) -> usize
     ensures { result ≡ column_of col }
 {
     col.saturating_add(1)
 }
 
-// Adds the message on one line, escaped as a command has it.
+// Adds the message on one line, escaped for a command.
 pub(crate) fn push_message(alloc: Global, to: &mut String, message: &str) -> Result<(), AllocError>
     ensures { OnOk result (string_bytes to.new
         ≡ string_bytes to.old ++ escaped (on_one_line message.now)) }
@@ -100,7 +100,7 @@ pub(crate) fn push_property(to: &mut String, text: &str) -> Result<(), AllocErro
     Ok(())
 }
 
-// A property ends at a colon or a comma.
+// Adds a character of a property, where a colon and a comma are escaped too, as they would end it.
 fn push_property_character(to: &mut String, character: char) -> Result<(), AllocError>
     ensures { OnOk result (string_bytes to.new
         ≡ string_bytes to.old ++ property_character character) }

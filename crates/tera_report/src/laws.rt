@@ -1,4 +1,4 @@
-//! What findings as text are, in other words: each function has the law as its promise and does nothing.
+//! Laws of findings as text: each function has the law as its promise and does nothing.
 
 ghost use Rattle.std.specs.Prelude.{◌≡◌, ◌<◌, ◌^◌, ℕ, List, None};
 ghost use Rattle.tera_base.specs.declared.utils.Span.{Span};

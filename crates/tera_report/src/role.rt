@@ -1,4 +1,4 @@
-//! What a message is.
+//! The role of a message.
 
 ghost use Rattle.std.specs.Prelude.{◌≡◌, IfOk, string_bytes};
 ghost use Rattle.tera_report.specs.FullTexts.{colour_of, word_of, part_of};
@@ -7,12 +7,12 @@ use std::alloc::{AllocError, Global};
 use tera_check::{Kind, Severity};
 use terminal_text::Part;
 
-/// A finding, or what explains one or may have been meant.
+/// A finding, a note that explains one, or a text that may have been meant.
 #[derive(Clone, Copy)]
 pub(crate) enum Role {
-    /// A finding of this kind, that is so grave.
+    /// A finding of this kind and severity.
     Finding(Kind, Severity),
-    /// What explains a finding.
+    /// A note that explains a finding.
     Note,
     /// What may have been meant.
     Help,

@@ -25,7 +25,7 @@ pub fn begin_log(out: &mut Writer, version: &str) -> Result<(), AllocError>
     put_tokens(out, &AFTER_THE_RULES)
 }
 
-// The form of the log, its one run, and what finds.
+// The version of SARIF, the one run, and the name of the tool.
 const BEFORE_THE_VERSION: [Token<'static>; 16] = [
     Token::BeginObject,
     Token::Key("$schema"),
@@ -45,7 +45,7 @@ const BEFORE_THE_VERSION: [Token<'static>; 16] = [
     Token::String("tera"),
 ];
 
-// The rule of files that could not be read, and the beginning of the results.
+// The rule for files that could not be read, and the beginning of the results.
 const AFTER_THE_RULES: [Token<'static>; 9] = [
     Token::BeginObject,
     Token::Key("id"),
@@ -182,7 +182,7 @@ fn put_place(alloc: Global, out: &mut Writer, file: &str, span: &Span) -> Result
     put_tokens(out, &[Token::EndObject, Token::EndObject])
 }
 
-// A line and a column, each by its name.
+// A line and a column, under these names.
 fn put_corner(
     out: &mut Writer,
     line_name: &str,
@@ -204,7 +204,7 @@ pub(crate) fn put_message(out: &mut Writer, text: &str) -> Result<(), AllocError
     out.end_object()
 }
 
-// A member that is an array.
+// Begins a member that is an array.
 pub(crate) fn begin_array(out: &mut Writer, name: &str) -> Result<(), AllocError>
     ensures { Puts result out.old out.new (array_begin name.now) }
 {

@@ -1,4 +1,4 @@
-//! A tree beside faults, as JSON.
+//! A tree with faults, as JSON.
 
 ghost use Rattle.std.specs.Prelude.{◌≡◌, map, option_map, string_bytes, IfOk};
 ghost use Rattle.json_members.specs.Written.{Puts};
@@ -15,8 +15,8 @@ use tera_check::{Finding, Template, faults_of, put_object, tree_of};
 use tera_tree_json::put_tree;
 
 /// The tree of the template, or of what it is read as, and its faults: an object of JSON on a line. Its members are
-/// `tree`, which is null where there is none; `faults`, which has the objects of `tera_check` in the order of their
-/// places; and `more`, whether there are more faults than these.
+/// `tree`, which is null if there is none; `faults`, the objects of `tera_check` in the order of their places; and
+/// `more`, whether there are more faults than these.
 pub fn tree_line_of(alloc: Global, template: &Template) -> Result<Vec<u8>, AllocError>
     ensures { IfOk result (λ v. IsTreeLine template.now v.items) }
 {
