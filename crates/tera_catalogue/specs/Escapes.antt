@@ -2,7 +2,7 @@
 use Rattle.std.specs.Prelude.{ℕ, List, [], ◌∷◌, Bool, ◌||◌, if◌then◌else◌, nat_eq, codes}
 use Rattle.std.specs.List.{flat_map, list_any}
 
--- what stands for a byte: `&`, `<`, `>` and the two quotes have names
+-- what is written for a byte: `&`, `<`, `>` and the two quotes have names
 abbrev pub escaped_byte : ℕ → List ℕ
 escaped_byte b =
     if nat_eq b 38 then codes "&amp;"

@@ -14,8 +14,8 @@ use Rattle.tera_grammar.specs.statements.Reading.Meeting.{Located}
 use Rattle.tera_tree.specs.Infos.{Info, info_of, info_view}
 use Rattle.tera_catalogue.specs.declared.components.Component.{Component}
 
--- a component: what is reported for it, whether its body holds something, where it is defined, and where its parameters
--- are
+-- a component: its name, parameters and metadata, whether its body has anything in it, where it is defined, and where
+-- its parameters are
 pub record ListedVal : Type 0 where
   pub info : Info
   pub has_body : Bool
@@ -45,7 +45,7 @@ listed_view c = record {
   parameters = located_if_any (option_map (λ spans name. get_by_text spans.now name) c.parameters);
 }
 
--- by name, then by file, each in the order of bytes, then by line and column
+-- sorted by name, then by file, each in the order of bytes, then by line and column
 abbrev pub Rank : Type 0
 Rank = List ℕ × List ℕ × ℕ × ℕ
 

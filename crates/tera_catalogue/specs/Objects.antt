@@ -17,7 +17,7 @@ abbrev pub text_or_null : Option (List ℕ) → Token
 text_or_null None = null
 text_or_null (Some text) = string text
 
--- members with whatever value, with a text or null, and with a truth
+-- members: with any value, with a text or null, and with a boolean
 abbrev pub member : List ℕ → List Token → List Token
 member name value = key name ∷ value
 
@@ -31,11 +31,11 @@ truth_member name truth = member name (boolean truth ∷ [])
 abbrev pub place_members : List ℕ → List ℕ → Place → List Token
 place_members line column place = number_member line place.line ++ number_member column place.column
 
--- where a parameter is; the beginning of the file where that is not known
+-- where a parameter is; the start of the file if that is not known
 abbrev pub parameter_place : ListedVal → List ℕ → Place
 parameter_place l name = place_of (span_if_any (l.parameters name))
 
--- a parameter: the default is there where the parameter has one
+-- a parameter: the default is there if the parameter has one
 abbrev pub default_member : Option Val → List Token
 default_member None = []
 default_member (Some v) = member (codes "default") (constant v)

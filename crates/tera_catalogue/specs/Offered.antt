@@ -10,7 +10,7 @@ use Rattle.tera_tree.specs.declared.argument_infos.ComponentArgType.{ComponentAr
 use Rattle.tera_tree.specs.declared.argument_infos.ComponentArgType.TheVariants as types
 use Rattle.tera_catalogue.specs.declared.components.Component.{Component}
 
--- what comes after the name of an attribute: a constant of the type, and nothing where the type has none, so that the
+-- what comes after the name of an attribute: a constant of the type; or nothing, if the type has none, so that the
 -- variable of that name is passed
 abbrev pub constant_of : Option ComponentArgType → List ℕ
 constant_of None = codes "=\"\""
@@ -22,7 +22,7 @@ constant_of (Some types.Array) = codes "={[]}"
 constant_of (Some types.Map) = codes "={ {} }"
 constant_of (Some types.Bytes) = []
 
--- an attribute, where the argument has to be passed
+-- an attribute, if the argument has to be passed
 abbrev pub attribute_of : ArgumentInfo → List ℕ
 attribute_of a = if is_required a then codes " " ++ (a.name ++ constant_of a.typ) else []
 

@@ -69,7 +69,7 @@ section l call =
 abbrev pub section_of : Component → List ℕ
 section_of c = section (listed_view c) (option_map string_bytes c.call)
 
--- what is before and after the sections, as the code has it
+-- what is before and after the sections, as in the code
 unfoldable pub head : List ℕ
 head = HEAD.now
 

@@ -126,7 +126,7 @@ fn push_name(page: &mut Vec<u8>, implicit: bool, name: &str) -> Result<(), Alloc
     push_within(page, "", name, "</code></td>")
 }
 
-// What is before the name.
+// The sign before the name.
 fn sign(implicit: bool) -> &'static str
     ensures { result.now ≡ (if implicit then codes "@" else []) }
 {
@@ -176,7 +176,7 @@ fn push_value(alloc: Global, page: &mut Vec<u8>, value: &Value) -> Result<(), Al
     push_within(page, "<td><code>", text.as_str(), "</code></td></tr>\n")
 }
 
-// A value as it is shown inside another.
+// A value in the form that it has inside another one.
 fn inner_text(alloc: Global, value: &Value) -> Result<String, AllocError>
     ensures { IfOk result (λ t. string_bytes t ≡ inner_text (value_view value.now)) }
 {

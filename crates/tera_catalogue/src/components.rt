@@ -21,22 +21,23 @@ use tera_parser::value::Span;
 /// A component that is listed.
 #[derive(Drop)]
 pub struct Component<'a> {
-    /// What is reported for it.
+    /// Its name, parameters and metadata.
     pub info: ComponentInfo,
     /// Whether something is in its body.
     pub has_body: bool,
     /// The file that defines it.
     pub file: &'a str,
-    /// Where it is defined there.
+    /// Where it is defined in the file.
     pub place: Place,
-    /// Where its parameters are there, by their names.
+    /// Where its parameters are in the file, by their names.
     pub parameters: Option<&'a BTreeMap<String, Span>>,
-    /// A call of it to copy, unless the parser refuses it.
+    /// A call of it to copy, unless the parser does not accept it.
     pub call: Option<String>,
 }
 
-/// The components that the templates define: by name, those of one name by file, and those of one file by place. A
-/// template with a fault defines none; a component that is defined again is listed again.
+/// The components that the templates define, sorted by name, then by file, then by place. A template with a fault
+/// defines those of its tree ([`tera_check::tree_of`]), if it has one. A component that is defined again is listed
+/// again.
 pub fn components_of<'a>(
     alloc: Global,
     templates: &'a Vec<Template>,
@@ -52,7 +53,7 @@ pub fn components_of<'a>(
     Ok(components)
 }
 
-// What is reported for the components.
+// The components with what is listed of them.
 fn components_in<'a>(
     alloc: Global,
     known: &Vec<Known<'a>>,
@@ -89,12 +90,12 @@ fn info_of(alloc: Global, definition: &ComponentDefinition) -> Result<ComponentI
 {
     match ComponentInfo::from_definition(alloc, definition) {
         Ok(info) => Ok(info),
-        // The only refusal is an allocation failure.
+        // The only error is an allocation failure.
         Err(_) => Err(AllocError),
     }
 }
 
-// By name, file, line and column.
+// Sorts them by name, file, line and column.
 fn put_in_order(known: &mut Vec<Known<'_>>) -> Result<(), AllocError>
     ensures ordered { OnOk result (IsInOrder (map listed (map known_view known.new.items))) }
     ensures same { IsPermutation known.old.items known.new.items }

@@ -5,7 +5,7 @@ ghost use Rattle.tera_catalogue.specs.Escapes.{escaped, escaped_byte, has_markup
 
 use std::alloc::{AllocError, Global};
 
-/// The text as it is in a page: a browser shows it as it is, since it holds no markup.
+/// The text as it is written in a page, without markup, so that a browser shows it as it is.
 #[tactic(auto, using(crate::proofs::EscapeLemmas::without_markup))]
 pub fn escaped(alloc: Global, text: &str) -> Result<Vec<u8>, AllocError>
     ensures bytes { IfOk result (λ v. v.items ≡ escaped text.now) }
@@ -42,7 +42,7 @@ fn push_byte(page: &mut Vec<u8>, byte: u8) -> Result<(), AllocError>
     }
 }
 
-/// Adds the markup as it is.
+/// Adds the markup without escapes.
 pub(crate) fn push(page: &mut Vec<u8>, markup: &str) -> Result<(), AllocError>
     ensures { OnOk result (page.new.items ≡ page.old.items ++ markup.now) }
 {

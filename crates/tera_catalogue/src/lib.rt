@@ -5,8 +5,8 @@
 //! (`page_of`). It depends on `tera_check` and `tera_parser`, and its code names nothing below them; of the kit it uses
 //! `json`.
 //!
-//! In the order of reading: specs `Listed`, `Offered`; `components`, over `offers`; then `values` and `objects`, the
-//! JSON (specs `Constants`, `Objects`), and `escapes`, `cells`, `frame` and `pages`, the HTML (specs `Escapes`,
+//! In the order of reading: specs `Listed`, `Offered`; `components`, which uses `offers`; then `values` and `objects`,
+//! the JSON (specs `Constants`, `Objects`), and `escapes`, `cells`, `frame` and `pages`, the HTML (specs `Escapes`,
 //! `Pages`).
 #![tactic(auto)]
 

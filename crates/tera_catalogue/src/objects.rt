@@ -118,7 +118,7 @@ fn write_rest(
     }
 }
 
-// Where the parameter of this name is; where that is not known, where the file begins.
+// Where the parameter of this name is; if that is not known, the start of the file.
 fn parameter_place(component: &Component<'_>, name: &str) -> Place
     ensures { result ≡ parameter_place (listed_view component.now) name.now }
 {

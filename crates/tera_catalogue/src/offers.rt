@@ -11,7 +11,7 @@ use tera_check::{Template, read_template};
 use tera_parser::ast::{ComponentArg, ComponentArgType, ComponentInfo};
 use tera_parser::value::ErrorKind;
 
-/// A call of the component that is offered to copy: `call_of`, unless the parser refuses that text.
+/// A call of the component that is offered to copy: `call_of`, unless the parser does not accept that text.
 pub fn offered(alloc: Global, info: &ComponentInfo) -> Result<Option<String>, AllocError>
     ensures { IfOk result (λ o. IfSome o (λ t. IsOffer (info_view info.now) (string_bytes t))) }
 {
@@ -23,8 +23,8 @@ pub fn offered(alloc: Global, info: &ComponentInfo) -> Result<Option<String>, Al
     }
 }
 
-/// A call of the component, as a template by itself. It passes what has to be passed: a constant of the type, or where
-/// the type has none the variable of the argument's name.
+/// A call of the component, as a template by itself. It passes each required argument: a constant of the type or, if
+/// the type has none, the variable of the argument's name.
 pub fn call_of(alloc: Global, info: &ComponentInfo) -> Result<String, AllocError>
     ensures { IfOk result (λ t. string_bytes t ≡ call_of (info_view info.now)) }
 {

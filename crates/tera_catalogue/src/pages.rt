@@ -11,7 +11,7 @@ use crate::frame::{push_head, push_tail};
 use crate::objects::call_to_copy;
 use std::alloc::{AllocError, Global};
 
-/// The components as a page of HTML that is self-contained: a box that searches, and a section for each.
+/// The components as a self-contained page of HTML: a search box, and a section for each component.
 pub fn html_of(alloc: Global, components: &[Component<'_>]) -> Result<Vec<u8>, AllocError>
     ensures { IfOk result (λ v. v.items ≡ page_of components.now) }
 {

@@ -22,7 +22,7 @@ pub(crate) fn write_constant(
     write_value(alloc, writer, usize::MAX, value)
 }
 
-// The same of one that nests no deeper than there is room.
+// The same for a constant that nests at most `room` levels deep.
 #[cycle(constants)]
 fn write_value(
     alloc: Global,
@@ -43,7 +43,7 @@ fn write_value(
     }
 }
 
-// A whole number.
+// Writes a whole number.
 fn write_whole(alloc: Global, writer: &mut Pretty, whole: i64) -> Result<(), AllocError>
     ensures { OnOk result (writer.new ≡ writer.old ++ number (signed_decimal whole) ∷ []) }
 {
@@ -51,7 +51,7 @@ fn write_whole(alloc: Global, writer: &mut Pretty, whole: i64) -> Result<(), All
     writer.token(Token::Number(text.as_str()))
 }
 
-// The text that a value is shown as.
+// Writes the text that a value is shown as.
 fn write_shown(alloc: Global, writer: &mut Pretty, value: &Value) -> Result<(), AllocError>
     ensures { OnOk result (writer.new
         ≡ writer.old ++ string (value_text (value_view value.now)) ∷ []) }
@@ -105,8 +105,7 @@ fn write_members(
     Ok(())
 }
 
-// The room one level deeper. That there is none, after more levels than a memory holds, is reported as an allocation
-// failure.
+// The room one level deeper. If there is none, after more levels than a memory holds, this is an allocation failure.
 fn deeper(room: usize) -> Result<usize, AllocError>
     ensures { IfOk result (λ left. left + 1 ≡ room) }
 {
@@ -117,7 +116,7 @@ fn deeper(room: usize) -> Result<usize, AllocError>
     }
 }
 
-// The name of a member.
+// Writes the name of a member.
 fn write_name(alloc: Global, writer: &mut Pretty, name: &Key) -> Result<(), AllocError>
     ensures { OnOk result (writer.new ≡ writer.old ++ key (key_text (key_view name.now)) ∷ []) }
 {
