@@ -1,4 +1,4 @@
--- What is found in a template, as far as it says no place in one file.
+-- What is found in a template, if none of its notes is in one file.
 use Rattle.std.specs.Prelude.{◌≡◌, ◌≢◌, ◌⊎◌, ℕ, List, Option, None, Some, nat_eq}
 use Rattle.std.specs.List.{AllByRecursion}
 use Rattle.tera_check.specs.Findings.{NoteVal, NoteOf, FindingVal, FoundAs}
@@ -12,7 +12,7 @@ IsElsewhere file (NoteOf of_file span text) = of_file ≢ file
 abbrev pub IsBeside : List ℕ → FindingVal → Type 0
 IsBeside file (FoundAs kind severity span text notes) = AllByRecursion (IsElsewhere file) notes
 
--- components that are reported alike, but that in this file their spans may differ
+-- components with which the same is found, except that their spans in this file may differ
 pub record AreAlikeBut (file : List ℕ) (number : ℕ) (k j : KnownVal) : Type 0 where
   pub name : k.definition.name ≡ j.definition.name
   pub arguments : k.definition.arguments ≡ j.definition.arguments
@@ -28,6 +28,6 @@ AreAlikeButIfAny file number None None = Unit {0}
 AreAlikeButIfAny file number (Some k) (Some j) = AreAlikeBut file number k j
 AreAlikeButIfAny file number _ _ = ⊥
 
--- under each of these names
+-- such components, or none, are known under each of these names
 abbrev pub AgreeBut : List (List ℕ) → List ℕ → ℕ → (List ℕ → Option KnownVal) → (List ℕ → Option KnownVal) → Type 0
 AgreeBut names file number known others = AllByRecursion (λ n. AreAlikeButIfAny file number (known n) (others n)) names

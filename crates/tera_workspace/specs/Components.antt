@@ -1,4 +1,4 @@
--- The components that documents define, their parameters, and the files that are there.
+-- The components that documents define, their parameters, and the files that exist.
 use Rattle.std.specs.Prelude.{ℕ, List, [], map, filter, is_some}
 use Rattle.std.specs.List.{flat_map}
 use Rattle.std.specs.Option.{option_map_or}
@@ -11,7 +11,7 @@ use Rattle.tera_check.specs.declared.templates.Template.{Template}
 use Rattle.tera_workspace.specs.Kept.{name_of, templates_of}
 use Rattle.tera_workspace.specs.declared.workspace.Workspace.{Workspace}
 
--- the names of the components that a template defines, in order, and those of templates
+-- the names of the components that a template defines, in order, and those that templates define
 abbrev pub names_defined : Template → List (List ℕ)
 names_defined t = map (λ d. d.name) (definitions_of t)
 
@@ -22,11 +22,11 @@ components_by ts = flat_map names_defined ts
 abbrev pub parameters_of : KnownVal → List (List ℕ)
 parameters_of k = map (λ a. a.0) k.definition.arguments
 
--- of a name: those of the first definition of it, and none where there is none
+-- the parameters under a name: those of its first definition, and none if it has no definition
 abbrev pub parameters_by : List Template → List ℕ → List (List ℕ)
 parameters_by ts name = option_map_or parameters_of (first_named name (defined_by 0 ts)) []
 
--- those of some files that are there
+-- the files among these that exist
 abbrev pub files_by : Documents → List (List ℕ) → List (List ℕ)
 files_by ds files = filter (λ f. is_some (text_of (document_of ds f))) files
 

@@ -1,4 +1,4 @@
--- Where components are defined, which texts the documents have, and what is found by these, as they are.
+-- Where components are defined, and when queries are answered by the documents as they are.
 use Rattle.std.specs.Prelude.{◌≡◌, ℕ, List, map, string_bytes, slice_get, Option, Some}
 use Rattle.std.specs.List.{Contains}
 use Rattle.std.specs.Option.{option_map}
@@ -21,7 +21,7 @@ use Rattle.tera_workspace.specs.declared.queries.Definition.{Definition}
 use Rattle.tera_workspace.specs.declared.queries.FileText.{FileText}
 use Rattle.tera_workspace.specs.declared.workspace.Workspace.{Workspace}
 
--- a file, and the part of its text in which the name of a component is, where it is defined
+-- a file, and the part of its text that is the name of a component in its definition
 pub record DefinitionVal : Type 0 where
   pub file : List ℕ
   pub start : Position
@@ -30,7 +30,7 @@ pub record DefinitionVal : Type 0 where
 abbrev pub definition_view : Definition → DefinitionVal
 definition_view d = record { file = string_bytes d.file; start = d.start; end = d.end }
 
--- that of a component that is known, in documents with these texts
+-- where a known component is defined, in documents with these texts
 abbrev pub definition_at : Encoding → List Source → KnownVal → DefinitionVal
 definition_at e sources k = record {
   file = k.file;
@@ -38,7 +38,7 @@ definition_at e sources k = record {
   end = position_in e (text_named k.file sources) k.span.range.end;
 }
 
--- of a name: that in the first document, by the order of the names, that defines it
+-- where the component of a name is defined: in the first document, by the order of the names, that defines it
 abbrev pub definition_by : Encoding → List Source → List Template → List ℕ → Option DefinitionVal
 definition_by e sources ts name = option_map (definition_at e sources) (first_named name (defined_by 0 ts))
 
@@ -53,7 +53,8 @@ text_view t = record { name = t.file.now; text = t.text.now }
 abbrev pub texts_read : Workspace → List Source
 texts_read w = sources_of w.judged.items
 
--- the documents were read as they are: what is found by them is what is found by their texts, wherever that is computed
+-- the documents were read as they are: the answers to queries are those by the texts of the documents, wherever these
+-- are computed
 pub record AreRead (w : Workspace) : Type 0 where
   pub sources : List Source
   pub are : AreSources w.documents sources
@@ -67,9 +68,9 @@ pub record AreRead (w : Workspace) : Type 0 where
   pub judgements : (n : List ℕ) (j : Option Judgement) → IsJudgementOf w n j → IsJudgementIfAny sources templates n j
   pub unknown : (r : RegisteredVal) (n : List ℕ) → unknown_of_name w r n ≡ unknown_by w.encoding sources templates r n
 
--- ---- what is so of them
+-- ---- what holds of the answers
 
--- a component of the name is defined by the template, and its name is there: of its definitions the one of a number
+-- the template defines a component of the name, and the name in one of its definitions is there
 pub record IsDefinedIn (e : Encoding) (sources : List Source) (t : Template) (name : List ℕ) (d : DefinitionVal) : Type 0 where
   pub file : d.file ≡ string_bytes t.file
   pub at : ℕ
@@ -77,7 +78,7 @@ pub record IsDefinedIn (e : Encoding) (sources : List Source) (t : Template) (na
   pub start : d.start ≡ position_in e (text_named d.file sources) (span_at t at).range.start
   pub end : d.end ≡ position_in e (text_named d.file sources) (span_at t at).range.end
 
--- one of these templates defines a component of the name, of which this is a parameter
+-- one of these templates defines a component of the name that has this parameter
 pub record IsParameterIn (ts : List Template) (name parameter : List ℕ) : Type 0 where
   pub template : Template
   pub among : Contains ts template

@@ -1,4 +1,4 @@
--- What is reported for a finding: positions in texts in the place of its spans.
+-- What is reported for a finding: positions in texts instead of its spans.
 use Rattle.std.specs.Prelude.{ℕ, List, map, string_bytes}
 use Rattle.text_edits.specs.Lines.{lines_of}
 use Rattle.text_edits.specs.Positions.{position_of, boundary_to}
@@ -11,14 +11,14 @@ use Rattle.tera_workspace.specs.Sources.{Source, text_named}
 use Rattle.tera_workspace.specs.declared.diagnostics.Diagnostic.{Diagnostic}
 use Rattle.tera_workspace.specs.declared.diagnostics.Related.{Related}
 
--- a file, the part of its text that explains a finding, and how
+-- a note: a file, the part of its text that explains a finding, and the message
 pub record RelatedVal : Type 0 where
   pub file : List ℕ
   pub start : Position
   pub end : Position
   pub message : List ℕ
 
--- what was found, how grave it is, the part of the text that it is about, and what explains it
+-- a finding: its kind, its severity, the part of the text that it is about, its message and its notes
 pub record DiagnosticVal : Type 0 where
   pub kind : Kind
   pub severity : Severity
@@ -44,7 +44,7 @@ diagnostic_view d = record {
 abbrev pub position_in : Encoding → List ℕ → ℕ → Position
 position_in e text byte = position_of e (lines_of text) (boundary_to text byte)
 
--- what is reported for a note: the part of the text of its file that its span is
+-- what is reported for a note: its span as a part of the text of its file
 abbrev pub related_of : Encoding → List Source → NoteVal → RelatedVal
 related_of e sources (NoteOf file span message) = record {
   file = file;
@@ -53,7 +53,7 @@ related_of e sources (NoteOf file span message) = record {
   message = message;
 }
 
--- and of a finding in a text
+-- and for a finding in a text
 abbrev pub diagnostic_of : Encoding → List Source → List ℕ → FindingVal → DiagnosticVal
 diagnostic_of e sources text (FoundAs kind severity span message notes) = record {
   kind = kind;

@@ -27,7 +27,7 @@ use Rattle.text_edits.specs.declared.positions.Encoding.{Encoding}
 use Rattle.tera_workspace.specs.Diagnostics.{DiagnosticVal, diagnostic_of}
 use Rattle.tera_workspace.specs.Sources.{Source}
 
--- how many faults of a document are reported at the most
+-- how many faults of a document are reported at most
 abbrev pub most_faults : ℕ
 most_faults = 100
 
@@ -50,7 +50,7 @@ pub record IsRead (s : Source) (t : Template) : Type 0 where
   pub ignores : AreIgnoresIn default_marks s.text t
   pub hidden : HasHidden t
 
--- what is found in the template of a number beside all of these, as `findings_of` gives it: its faults, and what is due
+-- what is found in the template of a number among all of these, as `findings_of` gives it: its faults, and what is due
 -- of its tree
 pub record IsFound (ts : List Template) (number : ℕ) (t : Template) (fs : List Finding) : Type 0 where
   pub ordered : IsInOrder fs
@@ -68,7 +68,7 @@ pub record AreTemplates (sources : List Source) (templates : List Template) : Ty
   pub as_many : length templates ≡ length sources
   pub read : (k : ℕ) (s : Source) (t : Template) → k < length sources → IsRead (slice_index_or sources k s) (slice_index_or templates k t)
 
--- of each, what is reported under its name
+-- for each source, what is reported under its name
 pub record AreFresh (e : Encoding) (sources : List Source) (reported_of : List ℕ → List DiagnosticVal) : Type 0 where
   pub templates : List Template
   pub are : AreTemplates sources templates

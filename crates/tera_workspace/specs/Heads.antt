@@ -1,4 +1,4 @@
--- The heads of components: what calls of them are judged by.
+-- The heads of components: what the findings in their calls depend on.
 use Rattle.std.specs.Prelude.{◌≡◌, ℕ, List, [], ◌∷◌, cond, Option, None, Some}
 use Rattle.std.specs.Str.{bytes_eq}
 use Rattle.tera_tree.specs.Tree.{Definition}
@@ -6,7 +6,7 @@ use Rattle.tera_check.specs.Bodies.{shows_in}
 use Rattle.tera_check.specs.Named.{definitions_of}
 use Rattle.tera_check.specs.declared.templates.Template.{Template}
 
--- the first of a name
+-- the first definition of a name
 abbrev pub definition_named : List ℕ → List Definition → Option Definition
 definition_named n [] = None
 definition_named n (d ∷ ds) = cond (bytes_eq d.name n) (Some d) (definition_named n ds)
@@ -17,14 +17,14 @@ pub record HaveOneHead (d e : Definition) : Type 0 where
   pub arguments : d.arguments ≡ e.arguments
   pub rest : d.rest ≡ e.rest
 
--- two such, or none
+-- two such definitions, or none
 abbrev pub HaveOneHeadIfAny : Option Definition → Option Definition → Type 0
 HaveOneHeadIfAny None None = Unit {0}
 HaveOneHeadIfAny (Some d) (Some e) = HaveOneHead d e
 HaveOneHeadIfAny _ _ = ⊥
 
--- calls of the component of a name are judged alike by both templates: its heads are one, and both may show its body, or
--- neither does
+-- in calls of the component of a name the same is found by both templates: the definitions have one head, and both may
+-- show the body, or neither does
 abbrev pub HaveOneHeadIn : List ℕ → Template → Template → Type 0
 HaveOneHeadIn n t u =
     HaveOneHeadIfAny (definition_named n (definitions_of t)) (definition_named n (definitions_of u)) × (shows_in t n ≡ shows_in u n)

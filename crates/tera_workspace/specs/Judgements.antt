@@ -9,13 +9,14 @@ use Rattle.tera_workspace.specs.Sources.{Source}
 use Rattle.tera_workspace.specs.declared.judgements.Judgement.{Judgement}
 use Rattle.tera_workspace.specs.declared.workspace.Workspace.{Workspace}
 
--- what is found in the template of a number, and by what: of each name the first component that any of them defines
+-- what is found in the template of a number, with the components that this depends on: for each name the first that any
+-- of them defines
 pub record IsJudgementAt (ts : List Template) (number : ℕ) (j : Judgement) : Type 0 where
   pub template : slice_get ts number ≡ Some j.template.now
   pub known : (n : List ℕ) → known_in j.catalogue n ≡ first_named n (defined_by 0 ts)
   pub found : IsFound ts number j.template.now j.findings.items
 
--- .. of the document of a name
+-- .. in the document of a name
 pub record IsJudgement (sources : List Source) (ts : List Template) (name : List ℕ) (j : Judgement) : Type 0 where
   pub number : ℕ
   pub named : slice_get (map (λ s. s.name) sources) number ≡ Some name

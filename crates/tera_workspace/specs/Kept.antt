@@ -1,4 +1,4 @@
--- What documents that were judged stand for, and what is so of them.
+-- What checked documents represent, and what holds of them.
 use Rattle.std.specs.Prelude.{◌≡◌, ◌||◌, if◌then◌else◌, ℕ, ◌<◌, ◌≤◌, List, [], ◌∷◌, Bool, true, false, cond, length, map, String, string_bytes, slice_index_or, MatchOption}
 use Rattle.std.specs.BTreeSet.{BTreeSet}
 use Rattle.std.specs.Borrow.{Bor}
@@ -34,7 +34,7 @@ templates_of js = map (λ j. j.template) js
 abbrev pub reported_of : Judged → List DiagnosticVal
 reported_of j = map diagnostic_view j.reported.items
 
--- what was reported under a name; nothing where it is not among them
+-- what was reported under a name; nothing, if no document has it
 abbrev pub reported_named : List ℕ → List Judged → List DiagnosticVal
 reported_named n [] = []
 reported_named n (j ∷ js) = cond (bytes_eq (string_bytes j.template.file) n) (reported_of j) (reported_named n js)
@@ -51,15 +51,15 @@ pub record IsNumbered (n : List ℕ) (js : List Judged) (k : ℕ) : Type 0 where
   pub is : (d : Judged) → has_name n (slice_index_or js k d) ≡ true
   pub first : NoneBefore n js k
 
--- where one of a name that none of them has would be in the order of the names
+-- where a document would be in the order of the names, if none has its name
 pub record IsNewPlace (n : List ℕ) (js : List Judged) (k : ℕ) : Type 0 where
   pub none : NoneBefore n js (length js)
   pub within : k ≤ length js
   pub before : (m : ℕ) (d : Judged) → m < k → is_gt (slice_cmp nat_cmp (string_bytes (slice_index_or js m d).template.file) n) ≡ false
   pub following : (d : Judged) → k < length js → is_gt (slice_cmp nat_cmp (string_bytes (slice_index_or js k d).template.file) n) ≡ true
 
--- these are the names of the components that the tree of the template defines and calls; of one without a tree none are
--- asked for
+-- these are the names of the components that the tree of the template defines and calls; without a tree nothing is
+-- required
 abbrev pub HasNames : List (String Global) → Template → Type 0
 HasNames names t = MatchOption (tree_of t) (Unit {0}) (λ o. map string_bytes names ≡ names_in (output_view o))
 
@@ -68,7 +68,7 @@ pub record IsWhole (j : Judged) : Type 0 where
   pub read : IsRead (source_of j) j.template
   pub names : HasNames j.names.items j.template
 
--- a document of this name and text, which was not judged
+-- a document of this name and text, for which nothing was reported yet
 pub record IsAnew (name text : List ℕ) (j : Judged) : Type 0 where
   pub named : string_bytes j.template.file ≡ name
   pub texted : j.text ≡ text
@@ -81,16 +81,16 @@ abbrev pub IsCurrent : Encoding → List Judged → ℕ → Judged → Type 0
 IsCurrent e js number j =
     j.stale ≡ false → IsReported e (sources_of js) (templates_of js) number j.text j.template (reported_of j)
 
--- so it is with each
+-- this holds of each
 abbrev pub AllWhole : List Judged → Type 0
 AllWhole js = AllByRecursion IsWhole js
 
 abbrev pub AreCurrent : Encoding → List Judged → Type 0
 AreCurrent e js = (k : ℕ) (d : Judged) → k < length js → IsCurrent e js k (slice_index_or js k d)
 
--- ---- what is marked when components of some names, and the places in a file, are others than they were
+-- ---- what is marked when components of some names, or places in a file, change
 
--- a place in the file was reported for a finding, and of a document
+-- a finding has a note in the file; and a finding that was reported for a document has one
 abbrev pub is_about : List ℕ → Diagnostic → Bool
 is_about file d = list_any (λ r. bytes_eq (string_bytes r.file) file) d.related.items
 
@@ -101,7 +101,7 @@ abbrev pub marked : List (List ℕ) → List ℕ → Judged → Judged
 marked touched file j =
     record j { stale = if list_any (λ n. is_among n (map string_bytes j.names.items)) touched || is_reported_in file j then true else j.stale }
 
--- all of them, if these differ: whether one may define more components than its tree, before and now
+-- all are marked if these differ: whether one may define more components than its tree, before and now
 abbrev pub made_stale : Judged → Judged
 made_stale j = record j { stale = true }
 
@@ -111,11 +111,11 @@ marked_if false false js = js
 marked_if true false js = map made_stale js
 marked_if false true js = map made_stale js
 
--- the names have all by which the documents are judged that are stale
+-- the names have all names of components in stale documents
 abbrev pub NeedsAll : BTreeSet (Bor (List ℕ)) → List Judged → Type 0
 NeedsAll needed js = AllByRecursion (λ j. j.stale ≡ true → (n : List ℕ) → is_among n (map string_bytes j.names.items) ≡ true → contains_name needed n ≡ true) js
 
--- ---- what stays so, whatever is read
+-- ---- what stays true, whatever is read
 
 pub record StayKept (old now : List Judged) : Type 0 where
   pub whole : AllWhole old → AllWhole now

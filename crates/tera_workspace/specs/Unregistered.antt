@@ -12,11 +12,11 @@ use Rattle.tera_workspace.specs.Kept.{sources_of, templates_of}
 use Rattle.tera_workspace.specs.Sources.{Source, text_named}
 use Rattle.tera_workspace.specs.declared.workspace.Workspace.{Workspace}
 
--- the filters, tests and functions of a template that there are not, in its text
+-- the filters, tests and functions of a template that are not registered, with positions in its text
 abbrev pub unknown_in : Encoding → List Source → RegisteredVal → List ℕ → Template → List DiagnosticVal
 unknown_in e sources r text t = map (diagnostic_of e sources text) (due_unknown r t)
 
--- .. of the template in the file of a name; nothing where there is none
+-- .. of the template in the file of a name; nothing, if there is none
 abbrev pub is_of_file : List ℕ → Template → Bool
 is_of_file n t = bytes_eq (string_bytes t.file) n
 

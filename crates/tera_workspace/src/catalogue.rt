@@ -12,7 +12,7 @@ use std::alloc::{AllocError, Global};
 use std::collections::{BTreeMap, BTreeSet};
 use tera_check::{Catalogue, Known, Template, definitions_of, known_at};
 
-/// The component of this name, of the first document that defines one.
+/// The component of this name in the first document that defines one.
 pub(crate) fn first_known<'a>(all: &'a Vec<Judged>, name: &str) -> Option<Known<'a>>
     ensures { option_map known_view result ≡ first_named name.now (defined_by 0 (templates_of all.now.items)) }
 {
@@ -26,7 +26,7 @@ pub(crate) fn first_known<'a>(all: &'a Vec<Judged>, name: &str) -> Option<Known<
     None
 }
 
-/// The components that the documents define, each of the first document that defines one of its name.
+/// The components that the documents define; if several have one name, the first.
 pub(crate) fn catalogue_of(alloc: Global, all: &Vec<Judged>) -> Result<Catalogue<'_>, AllocError>
     ensures { IfOk result (λ c. (n : List ℕ) →
         known_in c n ≡ first_named n (defined_by 0 (templates_of all.now.items))) }
@@ -38,7 +38,7 @@ pub(crate) fn catalogue_of(alloc: Global, all: &Vec<Judged>) -> Result<Catalogue
     Ok(catalogue)
 }
 
-// Adds the components that the template defines, unless there is one of the name.
+// Adds the components that the template defines, except those whose names the catalogue has.
 fn add_all<'a>(
     catalogue: &mut Catalogue<'a>,
     number: usize,
@@ -53,7 +53,7 @@ fn add_all<'a>(
     Ok(())
 }
 
-/// The components of these names, each of the first document that defines one.
+/// The components of these names, each from the first document that defines one.
 pub(crate) fn catalogue_for<'a>(
     alloc: Global,
     all: &'a Vec<Judged>,
@@ -69,7 +69,7 @@ pub(crate) fn catalogue_for<'a>(
     Ok(catalogue)
 }
 
-// Adds the components of these names that the template defines, unless there is one of the name.
+// Adds the components of these names that the template defines, except those whose names the catalogue has.
 fn add_template<'a>(
     catalogue: &mut Catalogue<'a>,
     needed: &BTreeSet<&str>,

@@ -1,4 +1,4 @@
-//! Findings, with positions in the place of spans.
+//! Findings, with positions instead of spans.
 
 ghost use Rattle.std.specs.Prelude.{◌≡◌, IfOk, map};
 ghost use Rattle.tera_check.specs.Findings.{finding_view, note_view};
@@ -23,7 +23,7 @@ pub struct Diagnostic {
     pub related: Vec<Related>,
 }
 
-/// What explains a finding, by a part of the text of whatever document.
+/// A note that explains a finding, at a part of the text of any document.
 #[derive(Debug, Drop, PartialEq, Eq)]
 pub struct Related {
     pub file: String,
@@ -32,7 +32,7 @@ pub struct Related {
     pub message: String,
 }
 
-/// What is reported for findings in a document, which is among all.
+/// What is reported for findings in a document, which is one of these.
 pub(crate) fn diagnostics_of(
     alloc: Global,
     encoding: Encoding,
@@ -84,7 +84,7 @@ fn related_of(
     Ok(related)
 }
 
-/// Where the span begins and ends in the document of this name.
+/// The positions where the span begins and ends in the document of this name.
 pub(crate) fn ends_in(
     encoding: Encoding,
     all: &Vec<Judged>,

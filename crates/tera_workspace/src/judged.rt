@@ -1,4 +1,4 @@
-//! Documents as they were judged.
+//! Documents as they were read and checked.
 
 ghost use Rattle.std.specs.Prelude.{◌≡◌, ◌++◌, IfOk, OnOk, map, string_bytes, MatchResult};
 ghost use Rattle.std.specs.List.{flat_map};
@@ -16,7 +16,7 @@ use tera_check::{Template, calls_of, is_open, read_template, tree_of};
 use tera_parser::ast::{ComponentCall, ComponentDefinition};
 use tera_parser::value::Spanned;
 
-/// How many faults of a document are reported at the most.
+/// How many faults of a document are reported at most.
 const MOST_FAULTS: usize = 100;
 
 /// A document: the text that was read, and what was reported for it.
@@ -24,15 +24,15 @@ const MOST_FAULTS: usize = 100;
 pub(crate) struct Judged {
     pub(crate) text: LinedText,
     pub(crate) template: Template,
-    // Of the components that it defines and calls, in their order.
+    // The names of the components that it defines and calls, in their order.
     pub(crate) names: Vec<String>,
-    // Whether other findings may be in it than those that were reported.
+    // Whether its findings may be others than those that were reported.
     pub(crate) stale: bool,
     pub(crate) reported: Vec<Diagnostic>,
 }
 
 impl Judged {
-    /// The document of this name and text, of which nothing was reported.
+    /// Reads the document of this name and text, for which nothing was reported yet.
     pub(crate) fn read(alloc: Global, name: &str, text: &str) -> Result<Judged, AllocError>
         ensures { IfOk result (IsAnew name.now text.now) }
     {
@@ -49,7 +49,7 @@ impl Judged {
     }
 }
 
-/// Whether a document may define more components than its tree.
+/// Whether one of the documents may define more components than its tree has.
 pub(crate) fn are_open(all: &Vec<Judged>) -> bool
     ensures { result ≡ are_open (templates_of all.now.items) }
 {
@@ -96,7 +96,7 @@ fn push_called(
     Ok(())
 }
 
-/// Where the document of this name is, or else where it would be in the order of the names.
+/// The number of the document of this name; or else the number that it would have in the order of the names.
 pub(crate) fn place_of(all: &Vec<Judged>, name: &str) -> Result<usize, usize>
     requires { AreAscending (sources_of all.now.items) }
     ensures { MatchResult result (IsNumbered name.now all.now.items) (IsNewPlace name.now all.now.items) }

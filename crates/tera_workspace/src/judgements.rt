@@ -1,4 +1,4 @@
-//! What is found in a document, by all that were read.
+//! What is found in a document, by all documents that were read.
 
 ghost use Rattle.std.specs.Prelude.{◌<◌, length, IfOk};
 ghost use Rattle.tera_workspace.specs.Judgements.{IsJudgementAt, IsJudgementOf};
@@ -10,10 +10,10 @@ use crate::workspace::Workspace;
 use std::alloc::{AllocError, Global};
 use tera_check::{Catalogue, Finding, Template, findings_of};
 
-/// What is found in a document, and by what.
+/// What is found in a document, and what that depends on.
 #[derive(Drop)]
 pub struct Judgement<'w> {
-    /// The components that documents define, of each name the first.
+    /// The components that documents define; if several have one name, the first.
     pub catalogue: Catalogue<'w>,
     pub template: &'w Template,
     /// In the order of their places.
@@ -21,8 +21,8 @@ pub struct Judgement<'w> {
 }
 
 impl Workspace {
-    /// What is found in the document of this name, as far as documents were read, if it was read itself. Nothing that was
-    /// reported is used.
+    /// What is found in the document of this name, by the documents that were read, if it is one of them. Nothing that
+    /// was reported is used.
     pub fn judgement_of(
         &self,
         alloc: Global,

@@ -1,4 +1,4 @@
-//! Laws of what is found and of what is asked: each function has its law as its promise and does nothing.
+//! Laws of what is found and of queries: each function has its law as its promise and does nothing.
 
 ghost use Rattle.std.specs.Prelude.{◌≡◌, ℕ, List, Option, Some};
 ghost use Rattle.std.specs.List.{AllByRecursion, Contains};
@@ -13,8 +13,8 @@ ghost use Rattle.tera_workspace.specs.Definitions.{DefinitionVal, definition_of_
 ghost use Rattle.tera_workspace.specs.Kept.{sources_of, templates_of};
 ghost use Rattle.tera_workspace.specs.declared.workspace.Workspace.{Workspace};
 
-/// Where nothing that is found in a tree says a place in a file, it is the same by what is known alike under the names
-/// that the tree defines and calls, except the spans of components in that file.
+/// If no note of what is found in a tree is in a file, the same is found with other components under the names that the
+/// tree defines and calls, if these are alike except for their spans in that file.
 pub fn beside()
     ensures { (known others : List ℕ → Option KnownVal) (file : List ℕ) (number : ℕ)
         (t : Template) (o : Output) → AgreeBut (names_in o) file number known others →

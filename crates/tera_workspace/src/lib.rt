@@ -2,13 +2,12 @@
 //!
 //! It takes documents as `text_edits` keeps them, and reports what `tera_check` finds in each, with positions of
 //! `text_edits` in place of spans. After an edit the document is read again, unless it has the text that was checked.
-//! Checked again are the document, the documents that name a component that may be another one now, and those that have
-//! a finding with a place in it. It also has the components and the files that there are, the parameters of a
-//! component, where it is defined, the texts that were read, and what is found in one document, also by what a program
-//! registers.
+//! Checked again are the document, the documents that name a component that may have changed, and those that have a
+//! finding with a place in it. It also has the names of the components and of the files, the parameters of a component,
+//! where it is defined, the texts that were read, and what is found in one document, also by what a program registers.
 //!
 //! In the order of reading: specs `Sources`, `Diagnostics`, `Fresh`, `Workspaces`; `lined_text` and `diagnostics`;
-//! `judged`, a document as it was judged; `reading`, and `touched`, what a new text changes for others; `catalogue`;
+//! `judged`, a document as it was checked; `reading`, and `touched`, what a new text changes for others; `catalogue`;
 //! `news`; specs `Components`, `Judgements`, `Unregistered` and `Definitions`; `workspace`; `queries`; `judgements`;
 //! `unknown`.
 #![tactic(auto)]

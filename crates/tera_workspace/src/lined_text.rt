@@ -41,7 +41,7 @@ impl LinedText {
         self.text.as_str()
     }
 
-    /// Where the span begins and ends.
+    /// The positions where the span begins and ends.
     pub(crate) fn ends_of(&self, encoding: Encoding, span: &Span) -> (Position, Position)
         ensures { result ≡ (position_in encoding self.now span.now.range.start, position_in encoding self.now span.now.range.end) }
     {

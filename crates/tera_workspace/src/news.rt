@@ -17,7 +17,7 @@ use std::collections::BTreeSet;
 use tera_check::{Catalogue, findings_of};
 use text_edits::Encoding;
 
-/// What is to be reported for each document: of one that is stale, what is found in it now.
+/// What is to be reported for each document: what is found in it now, if it is stale.
 pub(crate) fn news_of(
     alloc: Global,
     encoding: Encoding,
@@ -61,7 +61,7 @@ fn news_of_one(
     Ok(Some(diagnostics))
 }
 
-// The names of the components by which those are judged that are stale.
+// The names of the components that the findings of stale documents depend on.
 fn needed_of(alloc: Global, all: &Vec<Judged>) -> Result<BTreeSet<&str>, AllocError>
     ensures { IfOk result (λ s. NeedsAll s all.now.items) }
 {
@@ -76,7 +76,7 @@ fn needed_of(alloc: Global, all: &Vec<Judged>) -> Result<BTreeSet<&str>, AllocEr
     Ok(needed)
 }
 
-/// The names of the documents of which other findings are to be reported than were reported, in their order.
+/// The names of the documents whose findings differ from those that were reported, in their order.
 pub(crate) fn names_of(
     alloc: Global,
     all: &Vec<Judged>,
@@ -104,7 +104,7 @@ fn is_reported_already(judged: &Judged, news: &Option<Vec<Diagnostic>>) -> bool
     }
 }
 
-/// Reports it.
+/// Keeps what is to be reported, as reported.
 pub(crate) fn report(all: &mut Vec<Judged>, news: Vec<Option<Vec<Diagnostic>>>)
     requires { length news.items ≡ length all.old.items }
     ensures { all.new.items ≡ reported_each all.old.items news.items }

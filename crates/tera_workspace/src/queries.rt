@@ -1,4 +1,4 @@
-//! What is asked of the documents that were read.
+//! Queries of the documents that were read.
 
 ghost use Rattle.std.specs.Prelude.{◌≡◌, IfOk, map};
 ghost use Rattle.std.specs.Option.{option_map};
@@ -12,7 +12,8 @@ use std::alloc::{AllocError, Global};
 use tera_check::definitions_of;
 use text_edits::Position;
 
-/// Where a component is defined: a file, and the part of its text in which its name is, of `ui.button` the `button`.
+/// Where a component is defined: a file, and the part of its text that is the last part of its name, `button` for
+/// `ui.button`.
 #[derive(Debug, Drop, PartialEq, Eq)]
 pub struct Definition {
     pub file: String,
@@ -28,8 +29,8 @@ pub struct FileText<'w> {
 }
 
 impl Workspace {
-    /// Where the component of this name is defined, as far as documents were read: in the first of them, by the order of
-    /// the names, that defines it.
+    /// Where the component of this name is defined: in the first document, by the order of the names, that was read and
+    /// defines it.
     pub fn definition_of(&self, alloc: Global, name: &str) -> Result<Option<Definition>, AllocError>
         ensures { IfOk result (λ d. option_map definition_view d ≡ definition_of_name self.now name.now) }
     {
@@ -43,8 +44,8 @@ impl Workspace {
         }
     }
 
-    /// The files that were read, in the order of their names, each with its text. A file that is gone has the empty one, or
-    /// is not among them.
+    /// The files that were read, in the order of their names, each with its text. A file that is gone has an empty
+    /// text, or is not among them.
     pub fn texts(&self, alloc: Global) -> Result<Vec<FileText<'_>>, AllocError>
         ensures { IfOk result (λ texts. map text_view texts.items ≡ texts_read self.now) }
     {
@@ -58,8 +59,8 @@ impl Workspace {
         Ok(texts)
     }
 
-    /// The names of the components that the documents define that were read, in the order of the documents and of their
-    /// definitions. One with a fault defines those of what is left of it.
+    /// The names of the components that the read documents define, in the order of the documents and of their
+    /// definitions. A document with a fault defines those of its mended tree.
     pub fn components(&self, alloc: Global) -> Result<Vec<&str>, AllocError>
         ensures { IfOk result (λ v. map (λ n. n.now) v.items ≡ components_of self.now) }
     {
@@ -72,8 +73,8 @@ impl Workspace {
         Ok(names)
     }
 
-    /// The names of the parameters of a component, in their order, as far as documents were read: by the first of them that
-    /// defines it; none where none does.
+    /// The names of the parameters of a component, in their order: of the first definition in a document that was read;
+    /// empty if there is none.
     pub fn parameters_of(&self, alloc: Global, name: &str) -> Result<Vec<&str>, AllocError>
         ensures { IfOk result (λ v. map (λ n. n.now) v.items ≡ parameters_of_name self.now name.now) }
     {

@@ -14,7 +14,7 @@ use std::mem;
 use tera_check::definitions_of;
 use text_edits::Documents;
 
-/// Reads the documents of these names, and marks those whose findings may be others by that.
+/// Reads the documents of these names, and marks the documents whose findings may change by that.
 pub(crate) fn read_changed(
     alloc: Global,
     documents: &Documents,
@@ -35,8 +35,8 @@ pub(crate) fn read_changed(
     Ok(())
 }
 
-// Judges the document of this name by this text from now on, and marks those whose findings may be others by that. By the
-// text by which it was judged it is not read again.
+// Gives the document of this name this text, and marks the documents whose findings may change by that. If it has the
+// text already, it is not read again.
 fn put(alloc: Global, all: &mut Vec<Judged>, name: &str, text: &str) -> Result<(), AllocError>
     requires { AreAscending (sources_of all.old.items) }
     ensures kept { StayKept all.old.items all.new.items }
@@ -50,7 +50,7 @@ fn put(alloc: Global, all: &mut Vec<Judged>, name: &str, text: &str) -> Result<(
     }
 }
 
-// In the place of one that was judged.
+// Puts it in the place of the document of this name.
 fn replace(
     alloc: Global,
     all: &mut Vec<Judged>,
@@ -74,7 +74,7 @@ fn replace(
     Ok(())
 }
 
-// Where it is in the order of the names. The numbers of those after it are others then.
+// Puts it in the order of the names. The numbers of those after it change.
 fn insert(
     alloc: Global,
     all: &mut Vec<Judged>,

@@ -16,8 +16,8 @@ use std::collections::BTreeSet;
 use tera_check::{Template, definitions_of};
 use tera_parser::ast::ComponentDefinition;
 
-/// The names of at least those components that are others in the second template than in the first: that come, go, have
-/// other parameters, or show their body in one of them only.
+/// The names of at least the components that differ between the two templates: that come, go, have other parameters, or
+/// show their body in one of them only.
 pub(crate) fn touched_names(
     alloc: Global,
     old: &Template,
@@ -32,7 +32,7 @@ pub(crate) fn touched_names(
     Ok(touched)
 }
 
-// The names of at least those whose heads are others.
+// The names of at least the components whose heads differ.
 fn touched_heads(alloc: Global, old: &Template, new: &Template) -> Result<Vec<String>, AllocError>
     ensures { IfOk result (λ v. (n : List ℕ) → is_among n (map string_bytes v.items) ≡ false →
         HaveOneHeadIfAny (definition_named n (definitions_of old.now))
@@ -50,7 +50,7 @@ fn touched_heads(alloc: Global, old: &Template, new: &Template) -> Result<Vec<St
     Ok(touched)
 }
 
-// Adds the names of those that are at one number and are not called alike.
+// Adds the names of definitions that have one number and different heads.
 fn push_others(
     touched: &mut Vec<String>,
     before: &[ComponentDefinition],
@@ -71,7 +71,7 @@ fn push_others(
     Ok(())
 }
 
-// Adds those of the names that are not among the others.
+// Adds the names that are not among the others.
 fn push_not_in(
     touched: &mut Vec<String>,
     names: &BTreeSet<String>,
@@ -123,7 +123,8 @@ pub(crate) fn mark(all: &mut Vec<Judged>, touched: &Vec<String>, file: &str)
     }
 }
 
-/// Marks all documents, if one may define more components than its tree now and none did before, or the other way round.
+/// Marks all documents, if one may define more components than its tree now and none could before, or the other way
+/// round.
 pub(crate) fn mark_if_opened(all: &mut Vec<Judged>, was_open: bool)
     ensures { all.new.items ≡ marked_if was_open (are_open (templates_of all.old.items))
         all.old.items }
@@ -153,7 +154,7 @@ fn is_touched(judged: &Judged, touched: &Vec<String>, file: &str) -> bool
     is_reported_place_in(judged, file)
 }
 
-// Whether a place in the file was reported for the document.
+// Whether a finding that was reported for the document has a place in the file.
 fn is_reported_place_in(judged: &Judged, file: &str) -> bool
     ensures { result ≡ is_reported_in file.now judged.now }
 {

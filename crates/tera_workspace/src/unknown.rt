@@ -15,7 +15,7 @@ use tera_check::{Registered, unknown_found};
 use text_edits::Encoding;
 
 impl Workspace {
-    /// What is found in the document of this name by what the program registers, as the document was read last.
+    /// What is found in the document of this name by what the program registers, in the text that was read last.
     pub fn unknown_of(
         &self,
         alloc: Global,

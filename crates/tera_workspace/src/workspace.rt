@@ -12,12 +12,12 @@ use text_edits::{Change, Documents, Encoding};
 
 /// Templates by the names of their files, and what was reported for each.
 ///
-/// Of two components of one name that counts which is in the first file by the order of the names.
+/// If two files define one component, the first in the order of the names of the files counts.
 #[derive(Drop)]
 pub struct Workspace {
     pub(crate) encoding: Encoding,
     pub(crate) documents: Documents,
-    // The names of at least those documents of which another text may have been judged than they have.
+    // The names of at least the documents whose text may differ from the one that was read.
     changed: Vec<String>,
     // In the order of the names.
     pub(crate) judged: Vec<Judged>,
@@ -61,7 +61,7 @@ impl Workspace {
         self.documents.open(alloc, name, text)
     }
 
-    /// The editor has made these changes, in order; the answer says whether it has the file open. After an allocation
+    /// The editor has made these changes, in order; the result says whether it has the file open. After an allocation
     /// failure nothing changes, so that the editor has another text from then on.
     pub fn change(
         &mut self,
@@ -95,7 +95,7 @@ impl Workspace {
         Ok(())
     }
 
-    /// This text is on disk now, which counts where the file is not open. After an allocation failure nothing changes.
+    /// This text is on disk now. It counts if the file is not open. After an allocation failure nothing changes.
     pub fn set_file(&mut self, alloc: Global, name: &str, text: &str) -> Result<(), AllocError>
         ensures written { OnOk result (IsChangedAt name.now (written text.now) self.old.documents self.new.documents) }
         ensures err { OnErr result (AreSame self.old.documents self.new.documents) }
@@ -120,7 +120,7 @@ impl Workspace {
         Ok(())
     }
 
-    /// The text of the file: what the editor has where it is open, or else what is on disk.
+    /// The text of the file: the editor's text if it is open, or else the text on disk.
     pub fn text(&self, name: &str) -> Option<&str>
         ensures { option_map (λ t. t.now) result ≡ text_of (document_of self.now.documents name.now) }
     {
@@ -137,8 +137,8 @@ impl Workspace {
         }
     }
 
-    /// Reads the documents that changed, by which components, files and texts are reported. What was reported stays.
-    /// After an allocation failure some may be read.
+    /// Reads the documents that changed, so that queries are answered by their texts. What was reported stays. After an
+    /// allocation failure some may be read.
     pub fn read(&mut self, alloc: Global) -> Result<(), AllocError>
         ensures encoding { self.new.encoding ≡ self.old.encoding }
         ensures documents { AreSame self.old.documents self.new.documents }
@@ -151,9 +151,9 @@ impl Workspace {
         Ok(())
     }
 
-    /// Finds again what the documents have that changed, and those whose findings may be others by that. The answer
-    /// names the documents whose findings are others than were reported before, in the order of the names; from now on
-    /// `reported` has them. After an allocation failure what was reported stays.
+    /// Checks again the documents that changed, and those whose findings may change by that. The result has the names
+    /// of the documents whose findings differ from those that were reported before, in the order of the names; from now
+    /// on `reported` has them. After an allocation failure what was reported stays.
     pub fn settle(&mut self, alloc: Global) -> Result<Vec<String>, AllocError>
         ensures encoding { self.new.encoding ≡ self.old.encoding }
         ensures documents { AreSame self.old.documents self.new.documents }
