@@ -5,7 +5,7 @@ use Rattle.text_edits.specs.declared.positions.Encoding.{Encoding}
 use Rattle.protocol_values.specs.Writing.{number_json, encoding_name}
 use Rattle.tera_server.specs.SemanticTokens.{legend_json}
 
--- texts are reported when they are opened and closed, and their changes by parts
+-- the client reports texts that are opened and closed, and changes as parts of them
 abbrev pub sync_json : Json
 sync_json = object (member (codes "openClose") (boolean true) (member (codes "change") (number_json 2) no_members))
 
@@ -18,15 +18,15 @@ triggers =
 abbrev pub completion_json : Json
 completion_json = object (member (codes "triggerCharacters") (array triggers) no_members)
 
--- .. and what the component takes in whose call the cursor is
+-- .. and what the component takes whose call the cursor is in
 abbrev pub signature_json : Json
 signature_json = object (member (codes "triggerCharacters") (array (item (string (codes " ")) (item (string (codes "=")) no_items))) no_members)
 
--- what kinds of actions are offered
+-- the kinds of actions that are offered
 abbrev pub actions_json : Json
 actions_json = object (member (codes "codeActionKinds") (array (item (string (codes "quickfix")) no_items)) no_members)
 
--- tokens are reported for a whole text
+-- tokens are sent for a whole text
 abbrev pub semantic_json : Json
 semantic_json = object (member (codes "legend") legend_json (member (codes "full") (boolean true) no_members))
 
@@ -64,7 +64,8 @@ abbrev pub abilities_json : Encoding → Json
 abilities_json e =
     object (member (codes "capabilities") (capabilities_json e) (member (codes "serverInfo") server_json no_members))
 
--- which files a client is asked to watch: all, as settings say how the names of templates end, and it may be a folder
+-- the files that a client is asked to watch: all, as settings say how the names of templates end, and a folder may
+-- change too
 abbrev pub watcher_json : Json
 watcher_json = object (member (codes "globPattern") (string (codes "**/*")) no_members)
 
@@ -77,6 +78,6 @@ registration_json =
     (member (codes "method") (string (codes "workspace/didChangeWatchedFiles"))
     (member (codes "registerOptions") watchers_json no_members)))
 
--- the parameters by which it is asked
+-- the parameters of this request
 abbrev pub registrations_json : Json
 registrations_json = object (member (codes "registrations") (array (item registration_json no_items)) no_members)

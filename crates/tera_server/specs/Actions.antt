@@ -1,4 +1,4 @@
--- What may be done about what is found in a part of a document.
+-- The actions for what is found in a part of a document.
 use Rattle.std.specs.Prelude.{◌≡◌, ◌&&◌, ℕ, List, [], ◌∷◌, Bool, true, false, codes, map, nat_le, string_bytes, Option, None, Some}
 use Rattle.std.specs.List.{filter, filter_map, list_any}
 use Rattle.std.specs.Option.{option_map, option_map_or}
@@ -27,7 +27,7 @@ use Rattle.tera_server.specs.declared.actions.Acting.{Acting}
 use Rattle.tera_server.specs.declared.editor.Editor.{Editor}
 use Rattle.tera_server.specs.declared.settings.Settings.{Settings}
 
--- by what they are offered: the documents, what the editor has, the settings, the folders that are open, and how positions
+-- what they depend on: the documents, what the editor has, the settings, the folders that are open, and how positions
 -- are counted
 pub record ActingVal : Type 0 where
   pub workspace : Workspace
@@ -56,7 +56,7 @@ is_asked e text range shown f = is_on shown f.kind && is_on_lines e text range f
 
 -- ---- an action
 
--- a text in the place of a part of another
+-- the edit that replaces a part of a text
 abbrev pub part_json : Encoding → List ℕ → List ℕ → Part → Json
 part_json e source text p = edit_json (position_at e source p.start) (position_at e source p.end) text
 
@@ -79,7 +79,7 @@ unfoldable pub action_tokens : Encoding → List ℕ → List ℕ → Option Sug
 action_tokens e uri source None = []
 action_tokens e uri source (Some s) = json_tokens (action_json e uri source s)
 
--- ---- those of a document
+-- ---- the actions of a document
 
 -- the corrections that are suggested for what is found on lines of a range
 pub record AreActionsBy (x : ActingVal) (s : Source) (range : Position × Position) (j : Judgement) (actions : List Json) : Type 0 where
@@ -95,7 +95,7 @@ AreActionsIfAny x s range (Some j) actions = AreActionsBy x s range j actions
 
 -- ---- which kinds are asked for
 
--- a kind that covers that of corrections: the same, or the empty one, which covers all
+-- a kind that covers the kind of corrections: the same, or the empty one, which covers all
 abbrev pub covers_corrections : List ℕ → Bool
 covers_corrections kind = is_one_of (codes "" ∷ codes "quickfix" ∷ []) kind
 
@@ -114,7 +114,7 @@ wants_corrections params =
 
 -- ---- all
 
--- the array of all
+-- the array of all actions
 pub record AreActions (x : ActingVal) (s : Source) (range : Position × Position) (offered : Json) : Type 0 where
   pub judgement : Option Judgement
   pub judged : IsJudgementOf x.workspace s.name judgement

@@ -1,12 +1,12 @@
--- What a client reports itself.
+-- What a client reports about itself.
 use Rattle.std.specs.Prelude.{codes, Option}
 use Rattle.json.specs.Json.{Json}
 use Rattle.protocol_values.specs.Members.{member_of, is_set}
 use Rattle.protocol_values.specs.Reading.{encoding_in}
 use Rattle.tera_server.specs.declared.client.Client.{Client}
 
--- where its capabilities say which encodings it knows, whether it shows what explains a finding, whether it can be asked
--- to watch files, and whether it takes the place of a parameter in a head
+-- where its capabilities say which encodings it knows, whether it shows the notes of a finding, whether it can be asked
+-- to watch files, and whether it accepts the place of a parameter in a head
 abbrev pub offered_in : Option Json → Option Json
 offered_in j = member_of (codes "positionEncodings") (member_of (codes "general") j)
 

@@ -28,7 +28,7 @@ use Rattle.tera_server.specs.Positions.{position_at}
 use Rattle.tera_server.specs.Settings.{RegisteredVal}
 use Rattle.tera_server.specs.Templates.{template_name}
 
--- those of names in a text that stand for what is defined there
+-- the names in a text that stand for a definition there
 abbrev pub is_defined : NameKind → Bool
 is_defined Defined = true
 is_defined kind = false
@@ -36,12 +36,12 @@ is_defined kind = false
 abbrev pub defined_names : List Named → List (List ℕ)
 defined_names named = map (λ n. n.text) (filter (λ n. is_defined n.kind) named)
 
--- what a loop has
+-- the variables of a loop
 abbrev pub loop_names : List (List ℕ)
 loop_names = codes "loop.first" ∷ codes "loop.index" ∷ codes "loop.index0" ∷ codes "loop.last" ∷ codes "loop.length" ∷ []
 
--- what may be typed of a kind, by the documents, the folders that are open and the names that the program registers,
--- beside these names and variables of the text
+-- the names of a kind that may be typed, by the documents, the folders that are open and the names that the program
+-- registers, and by these names and variables of the text
 abbrev pub offered : Workspace → List (List ℕ) → RegisteredVal → List Named → List (List ℕ) → CompletionKind → List (List ℕ)
 offered w folders r named bound Statement = statement_words
 offered w folders r named bound Component = components_of w ++ defined_names named
@@ -61,7 +61,7 @@ kind_number Test = 3
 kind_number Operand = 6
 kind_number (Argument call) = 5
 
--- what a name that may be typed is reported as: it goes between two positions
+-- a name that may be typed, as it is sent: it replaces what is between two positions
 abbrev pub item_json : Position → Position → ℕ → List ℕ → Json
 item_json start end kind name =
     object (member (codes "label") (string name)
@@ -75,7 +75,7 @@ item_tokens start end kind name = json_tokens (item_json start end kind name)
 abbrev pub items_json : Position → Position → ℕ → List (List ℕ) → Json
 items_json start end kind names = array (items_of (map (item_json start end kind) (once_each names)))
 
--- at a byte of a text with these parts: what is typed there is replaced; `null` where nothing is to be typed
+-- at a byte of a text with these parts: the typed part of a name there is replaced; `null` if nothing may be typed
 abbrev pub completion_json : Encoding → Workspace → List (List ℕ) → RegisteredVal → List ℕ → List Named → List (List ℕ) → ℕ → Option Completion → Json
 completion_json e w folders r text named bound byte None = null
 completion_json e w folders r text named bound byte (Some c) =

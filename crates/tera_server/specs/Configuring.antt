@@ -15,7 +15,7 @@ use Rattle.tera_server.specs.declared.configuring.FoundSettings.TheVariants as f
 use Rattle.tera_server.specs.declared.notes.NeededKind.TheVariants.{Folder}
 use Rattle.tera_server.specs.declared.server.Server.{Server}
 
--- a document is in a folder, and something was reported of it; or each in the folder
+-- a document in a folder that has findings; or any document in it
 abbrev pub is_due_inside : Workspace → List ℕ → Bool → List ℕ → Bool
 is_due_inside w folder all n = is_inside folder n && (all || not (length (reported_of_name w n) == 0))
 
@@ -30,26 +30,27 @@ why_found found_as.Nothing = None
 why_found (found_as.Set file settings why) = option_map reason_view why
 why_found (found_as.Wrong file why) = Some (reason_view why)
 
--- the settings then, by those before: if they are wrong, those stay
+-- the settings after that, by those before: if the new ones are wrong, those stay
 abbrev pub settings_by : FoundSettings → Option SettingsVal → Option SettingsVal
 settings_by found_as.Nothing old = None
 settings_by (found_as.Set file settings why) old = Some (settings_view settings)
 settings_by (found_as.Wrong file why) old = old
 
--- some of what the program registers is listed by what was found, or was before; if that is wrong, nothing else is
+-- registered names are listed by what was found, or were before; if what was found is wrong, nothing changes
 abbrev pub is_listed_by : FoundSettings → Option SettingsVal → Bool
 is_listed_by found_as.Nothing old = has_list_if_any old
 is_listed_by (found_as.Set file settings why) old = has_list (settings_view settings) || has_list_if_any old
 is_listed_by (found_as.Wrong file why) old = false
 
--- nothing changes but settings, what is known of files, and what is to be published, which stays so
+-- only settings, what is known of files, and what is to be published change; nothing that was to be published is
+-- dropped
 pub record IsUnconfigured (s t : Server) : Type 0 where
   pub same : t ≡ record s { settings = t.settings; unread = t.unread; edited = t.edited; unpublished = t.unpublished }
   pub edited : Grows (edited_of s) (edited_of t)
   pub unpublished : Grows (unpublished_of s) (unpublished_of t)
 
--- What was reported in a folder is to be published, unless the same is reported there as before. Where something is
--- listed, each document is, as other names may be unknown.
+-- The documents in a folder that have findings are to be published, unless the same is reported there as before. If
+-- registered names are listed, all its documents are, as other names may be unknown.
 abbrev pub ArePublishedAgain : List ℕ → FoundSettings → Server → Server → Type 0
 ArePublishedAgain folder found s t =
     let old = settings_in s.settings folder in
@@ -57,8 +58,7 @@ ArePublishedAgain folder found s t =
     ((all ≡ false) × (reported_in (settings_by found old) ≡ reported_in old) × (unpublished_of t ≡ unpublished_of s))
     ⊎ (unpublished_of t ≡ unpublished_of s ++ filter (is_due_inside s.workspace folder all) (map (λ d. d.name) (texts_read s.workspace)))
 
--- They are the settings of the folder, and those of other folders are what they were; and what is wrong in their file is
--- known.
+-- They are the settings of the folder, and other folders keep theirs; and what is wrong in their file is known.
 pub record AreFoundSet (folder : List ℕ) (found : FoundSettings) (s t : Server) : Type 0 where
   pub settings : (f : List ℕ) → settings_in t.settings f ≡ cond (bytes_eq folder f) (settings_by found (settings_in s.settings f)) (settings_in s.settings f)
   pub file : file_in t.settings folder ≡ file_found found

@@ -28,11 +28,11 @@ IsNamedAt e text p named =
 abbrev pub first_of : List ℕ → DefinitionVal
 first_of file = record { file = file; start = record { line = 0; character = 0 }; end = record { line = 0; character = 0 } }
 
--- a template is the file that has its name, by the folders that are open
+-- the name of a template leads to the file that has it, by the folders that are open
 abbrev pub template_place : Workspace → List (List ℕ) → List ℕ → Option DefinitionVal
 template_place w folders name = option_map first_of (template_in folders (files_of w) name)
 
--- whether a name stands for a component; it does for a template where not
+-- whether a name stands for a component; else it stands for a template
 abbrev pub is_component : NameKind → Bool
 is_component Called = true
 is_component Closed = true
@@ -48,7 +48,7 @@ abbrev pub place_of : Workspace → List (List ℕ) → Option Named → Option 
 place_of w folders None = None
 place_of w folders (Some n) = place_by n.kind w folders n.text
 
--- that as a location; `null` where it leads nowhere
+-- the place as a location; `null` if the name leads nowhere
 abbrev pub place_json : Editor → Option DefinitionVal → Json
 place_json e None = null
 place_json e (Some d) = location_json (uri_in d.file (seen_of e d.file)) d.start d.end

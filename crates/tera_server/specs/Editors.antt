@@ -9,7 +9,7 @@ use Rattle.tera_server.specs.declared.editor.Seen.{Seen}
 use Rattle.tera_server.specs.declared.editor.DocumentState.{DocumentState}
 use Rattle.tera_server.specs.declared.editor.DocumentState.TheVariants.{Open, Lost, Closed}
 
--- its URI as the editor writes it, its version, and whether it is open
+-- a document: its URI as the editor writes it, its version, and whether it is open
 pub record SeenVal : Type 0 where
   pub uri : List ℕ
   pub version : Option ℕ
@@ -29,7 +29,7 @@ state_in (Some s) = s.state
 abbrev pub state_of : Editor → List ℕ → DocumentState
 state_of e n = state_in (seen_of e n)
 
--- the URI of the document of a name: as the editor writes it, where it reported about it
+-- the URI of the document of a name: as the editor writes it, if it reported about it
 abbrev pub uri_in : List ℕ → Option SeenVal → List ℕ
 uri_in n None = uri_of n
 uri_in n (Some s) = s.uri
@@ -38,7 +38,7 @@ abbrev pub version_in : Option SeenVal → Option ℕ
 version_in None = None
 version_in (Some s) = s.version
 
--- what becomes of one that was reported for: it has this version and is so
+-- a document with this version and this state
 abbrev pub with_state : Option ℕ → DocumentState → SeenVal → SeenVal
 with_state version state s = record { uri = s.uri; version = version; state = state }
 
@@ -47,18 +47,18 @@ state_lost Open = Lost
 state_lost Lost = Lost
 state_lost Closed = Closed
 
--- .. its text is not known any more, where it is open
+-- .. its text is not known any more, if it is open
 abbrev pub lost : SeenVal → SeenVal
 lost s = record { uri = s.uri; version = s.version; state = state_lost s.state }
 
--- the same of what is kept of it
+-- the same for what the code keeps of it
 abbrev pub seen_lost : Seen → Seen
 seen_lost s = record s { state = state_lost s.state }
 
--- what an editor reported about the document of this name is another, by a function, and of the others what it was
+-- what an editor reported about the document of this name changes by a function, and nothing else changes
 abbrev pub IsSeenAt : List ℕ → (Option SeenVal → Option SeenVal) → Editor → Editor → Type 0
 IsSeenAt name change old now = (n : List ℕ) → seen_of now n ≡ cond (bytes_eq name n) (change (seen_of old n)) (seen_of old n)
 
--- of all what it was
+-- nothing changes
 abbrev pub AreSeenAlike : Editor → Editor → Type 0
 AreSeenAlike old now = (n : List ℕ) → seen_of now n ≡ seen_of old n

@@ -1,4 +1,4 @@
--- What is found in a document, as it is published.
+-- Publishing what is found in a document.
 use Rattle.std.specs.Prelude.{ℕ, List, [], ◌++◌, Bool, if◌then◌else◌, codes, is_some, map, Option, None, Some, unwrap_or}
 use Rattle.std.specs.Option.{option_map, option_map_or, option_to_list}
 use Rattle.json.specs.Json.{Json, string, array, object, Members, no_members, member}
@@ -15,13 +15,13 @@ use Rattle.tera_server.specs.Settings.{Shown, shown_as}
 use Rattle.tera_server.specs.UnreadFiles.{ReasonVal, severity_number}
 use Rattle.tera_server.specs.declared.editor.Editor.{Editor}
 
--- what explains a finding
+-- a note of a finding
 abbrev pub related_json : Editor → RelatedVal → Json
 related_json e r =
     object (member (codes "location") (location_json (uri_in r.file (seen_of e r.file)) r.start r.end)
     (member (codes "message") (string r.message) no_members))
 
--- that, as it is written
+-- the tokens of that
 unfoldable pub one_related : Editor → RelatedVal → List Token
 one_related e r = json_tokens (related_json e r)
 
@@ -29,7 +29,7 @@ abbrev pub related_members : Editor → Bool → List RelatedVal → Members
 related_members e reported rs =
     if reported then member (codes "relatedInformation") (array (items_of (map (related_json e) rs))) no_members else no_members
 
--- that, as it is written
+-- the tokens of that
 abbrev pub related_tokens : Editor → Bool → List RelatedVal → List Token
 related_tokens e reported rs = if reported then member_tokens (codes "relatedInformation") (array (items_of (map (related_json e) rs))) else []
 
@@ -45,12 +45,12 @@ diagnostic_json e reported d =
 unfoldable pub one_found : Editor → Bool → DiagnosticVal → List Token
 one_found e reported d = json_tokens (diagnostic_json e reported d)
 
--- the version where it is known, before other members
+-- the version if it is known, before other members
 abbrev pub with_version : Option ℕ → Members → Members
 with_version None ms = ms
 with_version (Some n) ms = member (codes "version") (number_json n) ms
 
--- that, as it is written
+-- the tokens of that
 abbrev pub version_tokens : Option ℕ → List Token
 version_tokens None = []
 version_tokens (Some n) = member_tokens (codes "version") (number_json n)
@@ -70,16 +70,16 @@ reason_json r =
     (member (codes "source") (string (codes "tera"))
     (member (codes "message") (string r.message) no_members)))))
 
--- that, as it is written where it is so
+-- its tokens, if there is a reason
 abbrev pub reason_tokens : Option ReasonVal → List Token
 reason_tokens None = []
 reason_tokens (Some r) = json_tokens (reason_json r)
 
--- a finding, as it is written unless its rule is off
+-- the tokens of a finding, unless its rule is off
 abbrev pub found_if_on : Editor → Bool → Shown → DiagnosticVal → List Token
 found_if_on e reported shown d = option_map_or (one_found e reported) (shown_as shown d) []
 
--- all that is published of a file: first why it cannot be read, if it cannot
+-- all that is published for a file: first why it cannot be read, if it cannot
 abbrev pub diagnostics_json : Editor → Bool → Option ReasonVal → List DiagnosticVal → List Json
 diagnostics_json e reported why ds = option_to_list (option_map reason_json why) ++ map (diagnostic_json e reported) ds
 

@@ -1,4 +1,4 @@
--- What is reported for a component that is named in a text.
+-- What is shown for the name of a component in a text.
 use Rattle.std.specs.Prelude.{◌≡◌, if◌then◌else◌, ℕ, List, codes, Option, None, Some}
 use Rattle.json.specs.Json.{Json, null, string, object, no_members, member}
 use Rattle.tera_outline.specs.Heads.{head_of}
@@ -20,7 +20,7 @@ abbrev pub text_at : Workspace → Option DefinitionVal → Option (List ℕ)
 text_at w None = None
 text_at w (Some d) = text_of (document_of w.documents d.file)
 
--- this is the head of the first definition of a component in a text, if one is there
+-- this is the head of the first definition of a component in a text, if it has one
 abbrev pub IsHeadIn : Option (List ℕ) → List ℕ → Option (List ℕ) → Type 0
 IsHeadIn None name head = head ≡ None
 IsHeadIn (Some text) name head = (parts : List Part) × ArePartsOf text parts × (head ≡ head_of text parts name)
@@ -34,16 +34,16 @@ IsHeadBy w (Some name) head = IsHeadIn (text_at w (definition_of_name w name)) n
 abbrev pub IsHead : Workspace → Option Named → Option (List ℕ) → Type 0
 IsHead w named head = IsHeadBy w (component_in named) head
 
--- that as plain text; `null` where there is none
+-- the head as plain text; `null` if there is none
 abbrev pub hover_json : Option (List ℕ) → Json
 hover_json None = null
 hover_json (Some head) =
     object (member (codes "contents")
     (object (member (codes "kind") (string (codes "plaintext")) (member (codes "value") (string head) no_members))) no_members)
 
--- ---- what is so of it
+-- ---- what holds of it
 
--- this is the head of a definition in the text of the file to which the name leads, of the component that the name stands for
+-- this is the head of a definition of the component, in the text of the file to which the name leads
 pub record IsOfDefinition (w : Workspace) (folders : List (List ℕ)) (named : Option Named) (reported : List ℕ) : Type 0 where
   pub name : List ℕ
   pub component : component_in named ≡ Some name

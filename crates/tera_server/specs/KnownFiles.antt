@@ -1,4 +1,4 @@
--- Files that are there, by their names.
+-- Files that exist on disk, by their names.
 use Rattle.std.specs.Prelude.{◌≡◌, ℕ, List, map, string_bytes, Bool, cond}
 use Rattle.std.specs.BTreeSet.{contains_text}
 use Rattle.std.specs.Str.{bytes_eq}
@@ -11,6 +11,6 @@ is_known k n = contains_text k.names n
 abbrev pub known_names : KnownFiles → List (List ℕ)
 known_names k = map string_bytes k.names.keys
 
--- the file of this name is there, or it is not; and of the others it is as it was
+-- the file of this name exists, or it does not; and nothing changes for the others
 abbrev pub IsKnownAs : List ℕ → Bool → KnownFiles → KnownFiles → Type 0
 IsKnownAs name there old now = (n : List ℕ) → is_known now n ≡ cond (bytes_eq name n) there (is_known old n)

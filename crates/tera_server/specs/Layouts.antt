@@ -19,17 +19,17 @@ use Rattle.tera_server.specs.Positions.{position_at}
 abbrev pub edit_json : Encoding → List ℕ → Edit → Json
 edit_json e text edit = edit_between (position_at e text edit.start) (position_at e text edit.end) edit.text.now
 
--- that, as it is written
+-- its tokens
 unfoldable pub edit_tokens : Encoding → List ℕ → Edit → List Token
 edit_tokens e text edit = json_tokens (edit_json e text edit)
 
--- edits of white space that make the one text the other, apart and in order
+-- edits of white space that turn the old text into the new one, in order and without overlap
 pub record AreEdits (old new : List ℕ) (edits : List Edit) : Type 0 where
   pub applied_are : applied edits old ≡ new
   pub apart : AreApart edits
   pub white : All (ReplacesWhite old) edits
 
--- edits to the layout of a text; `null` where it has none
+-- edits to the layout of a text; `null` if it has none
 abbrev pub IsLayoutOf : Encoding → List ℕ → Option (List ℕ) → Json → Type 0
 IsLayoutOf e text None j = j ≡ null
 IsLayoutOf e text (Some layout) j =
@@ -39,7 +39,7 @@ IsLayoutOf e text (Some layout) j =
 abbrev pub IsTemplate : List ℕ → Type 0
 IsTemplate text = (tree : Output) × Derives usual default_marks text tree
 
--- the layout of a text: of a template; what has a fault stays as it is
+-- the layout of a text, if it is a template; a text with a fault has none
 abbrev pub IsLaidOut : List ℕ → Option (List ℕ) → Type 0
 IsLaidOut text None = ¬ (IsTemplate text) ⊎ (laid_out default_marks text ≡ None)
 IsLaidOut text (Some layout) = IsTemplate text × (laid_out default_marks text ≡ Some layout)

@@ -26,7 +26,7 @@ use Rattle.tera_server.specs.declared.server.Phase.{Phase}
 use Rattle.tera_server.specs.declared.server.Phase.TheVariants.{Running}
 use Rattle.tera_server.specs.declared.server.Server.{Server}
 
--- what a method says
+-- what the notification of a method says
 abbrev pub noted_of : List ℕ → Noted
 noted_of m =
     if bytes_eq m (codes "initialized") then notes.Initialized
@@ -37,7 +37,7 @@ noted_of m =
     else (if bytes_eq m (codes "workspace/didChangeWorkspaceFolders") then notes.FoldersChanged
     else (if bytes_eq m (codes "exit") then notes.Exit else notes.Other))))))
 
--- the document that parameters speak of, and members of it
+-- the document in the parameters, and members of it
 abbrev pub document_in : Option Json → Option Json
 document_in params = member_of (codes "textDocument") params
 
@@ -47,12 +47,12 @@ uri_given document = text_in (member_of (codes "uri") document)
 abbrev pub version_of : Option Json → Option ℕ
 version_of document = number_in (member_of (codes "version") document)
 
--- one document is another by a note
+-- a note changes one document
 pub record IsNotedAt (name : List ℕ) (change : Known → Known) (s t : Server) : Type 0 where
   pub stays : StaysBut s t
   pub at : IsKnownAt name change s t
 
--- a document is opened; where no text is reported, the one that is known of it is not that of the editor
+-- a document is opened; if the note has no text, the text that is known of it is not the editor's
 abbrev pub IsOpened : List ℕ → List ℕ → Option (List ℕ) → Option ℕ → Server → Server → Type 0
 IsOpened name uri None version s t = IsNotedAt name with_lost s t × (needed_of t ≡ needed_of s) × (edited_of t ≡ edited_of s)
 IsOpened name uri (Some text) version s t =
@@ -63,8 +63,8 @@ abbrev pub are_taken : DocumentState → Option (List ChangeView) → Bool
 are_taken state None = false
 are_taken state (Some changes) = takes state changes
 
--- the names of those that are published for a new version, after changes: where they are taken, the document is among
--- them
+-- the names of the documents that are to be published for a new version, after changes: if the changes are taken, the
+-- document is among them
 abbrev pub edited_after : Bool → List ℕ → List (List ℕ) → List (List ℕ)
 edited_after taken name names = if taken then with_name name names else names
 
@@ -87,7 +87,7 @@ IsNotedAs of_document.Changed name uri s params t =
     IsChanged name (version_of (document_in params)) (changes_in (member_of (codes "contentChanges") params)) s t
 IsNotedAs of_document.Closed name uri s params t = IsClosed name s t
 
--- .. to that of a URI; where none is reported, it may be about whatever document
+-- .. to the document of a URI; if there is none, the note may be about any document
 abbrev pub IsNotedOf : DocumentNote → Option (List ℕ) → Server → Option Json → Server → Type 0
 IsNotedOf note None s params t = IsMissed s t
 IsNotedOf note (Some uri) s params t = (name : List ℕ) × IsNameOf uri name × IsNotedAs note name uri s params t
@@ -107,12 +107,12 @@ AddsName (Some uri) old now = (name : List ℕ) × IsNameOf uri name × (now ≡
 abbrev pub item_uri : Json → Option (List ℕ)
 item_uri j = uri_given (Some j)
 
--- only files are asked for
+-- only what is asked for changes
 pub record IsAsked (needed : List NeededVal) (s t : Server) : Type 0 where
   pub same : t ≡ record s { needed = t.needed }
   pub asked : needed_of t ≡ needed_of s ++ needed
 
--- folders are open, and others are not any more; both are asked for
+-- folders were opened, and others were closed; both are asked for
 pub record AreFoldersChanged (event : Option Json) (open_before : List (List ℕ)) (needed : List NeededVal) (open_now : List (List ℕ)) (needed_now : List NeededVal) : Type 0 where
   pub added : List (List ℕ)
   pub removed : List (List ℕ)
@@ -140,7 +140,7 @@ IsNotedBy notes.FoldersChanged s params t = HasOtherFolders (member_of (codes "e
 IsNotedBy notes.Exit s params t = t ≡ s
 IsNotedBy notes.Other s params t = t ≡ s
 
--- .. and before and after
+-- .. and nothing before it and after it
 abbrev pub IsNotedIn : Phase → Noted → Server → Option Json → Server → Type 0
 IsNotedIn Running noted s params t = IsNotedBy noted s params t
 IsNotedIn _ noted s params t = t ≡ s
@@ -163,13 +163,14 @@ sent_in _ noted s = []
 abbrev pub sent_by : Noted → Server → List (List ℕ)
 sent_by noted s = sent_in s.phase noted s
 
--- ---- parts of that
+-- ---- parts of this
 
--- if an allocation fails, the texts that are known to be open are those that were, except the document of this name
+-- if an allocation fails, the texts that are known to be open do not change; the document of this name is not among
+-- them
 abbrev pub IsHeldAside : List ℕ → Server → Server → Type 0
 IsHeldAside name s t = (n : List ℕ) → state_of t.editor n ≡ Open → (bytes_eq name n ≡ false) × (known_of t n ≡ known_of s n)
 
--- .. of this URI
+-- .. the document of this URI
 abbrev pub IsHeldBut : Option (List ℕ) → Server → Server → Type 0
 IsHeldBut None s t = IsMissed s t
 IsHeldBut (Some uri) s t = (name : List ℕ) → IsNameOf uri name → IsHeldAside name s t
@@ -180,27 +181,27 @@ IsHeldBut (Some uri) s t = (name : List ℕ) → IsNameOf uri name → IsHeldAsi
 abbrev pub Texts : Type 0
 Texts = List ℕ → Option (List ℕ)
 
--- one of them is another
+-- one of them changes
 abbrev pub IsTextAt : List ℕ → Option (List ℕ) → Texts → Texts → Type 0
 IsTextAt name text old now = (n : List ℕ) → now n ≡ cond (bytes_eq name n) text (old n)
 
--- it is opened with the text that is reported; where none is, with whatever text
+-- it is opened with the text in the note; if there is none, with any text
 abbrev pub EditOpened : Option (List ℕ) → Option (List ℕ) → Type 0
 EditOpened None now = ⊤
 EditOpened (Some text) now = now ≡ Some text
 
--- one that is open is changed; where the changes cannot be read, to whatever text
+-- one that is open is changed; if the changes cannot be read, to any text
 abbrev pub EditChanged : Encoding → Option (List ChangeView) → Option (List ℕ) → Option (List ℕ) → Type 0
 EditChanged e None old now = ⊤
 EditChanged e (Some changes) old now = (text : List ℕ) × (old ≡ Some text) × (now ≡ Some (edited e text changes))
 
--- what becomes of that of a document by a note, which opens it, changes it or closes it
+-- what a note does to the text of a document, which it opens, changes or closes
 abbrev pub Edit : Encoding → DocumentNote → Option Json → Option (List ℕ) → Option (List ℕ) → Type 0
 Edit e of_document.Opened params old now = EditOpened (text_in (member_of (codes "text") (document_in params))) now
 Edit e of_document.Changed params old now = EditChanged e (changes_in (member_of (codes "contentChanges") params)) old now
 Edit e of_document.Closed params old now = now ≡ None
 
--- .. of all: of that of a URI; where none is reported, it may be of whatever document
+-- .. to all texts: to the document of a URI; if there is none, to any document
 abbrev pub EditsOf : Encoding → DocumentNote → Option (List ℕ) → Option Json → Texts → Texts → Type 0
 EditsOf e note None params old now = ⊤
 EditsOf e note (Some uri) params old now =
@@ -210,6 +211,6 @@ abbrev pub Edits : Encoding → Noted → Option Json → Texts → Texts → Ty
 Edits e (notes.OfDocument note) params old now = EditsOf e note (uri_given (document_in params)) params old now
 Edits e _ params old now = (n : List ℕ) → now n ≡ old n
 
--- each text that is known to be open is that of the editor
+-- each text that is known to be open is the editor's
 abbrev pub IsInStep : Texts → Server → Type 0
 IsInStep texts s = (n : List ℕ) → state_of s.editor n ≡ Open → (document_of s.workspace.documents n).opened ≡ texts n

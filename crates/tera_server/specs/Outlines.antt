@@ -1,4 +1,4 @@
--- The outline of a text, as JSON: its blocks and the definitions of its components, each with those that are in it.
+-- The outline of a text, as JSON: its blocks and the definitions of its components, each with those inside it.
 use Rattle.std.specs.Prelude.{◌≡◌, ◌<◌, ◌≤◌, ◌++◌, ℕ, nat_lt, if◌then◌else◌, List, [], ◌∷◌, codes, length}
 use Rattle.std.specs.List.{AllByRecursion}
 use Rattle.json.specs.Json.{Json, string, array, object, Items, no_items, item, no_members, member}
@@ -17,7 +17,7 @@ pub data Forest : Type 0 where
   nothing : Forest
   symbol : Outlined → Forest → Forest → Forest
 
--- the first ones up to one that begins at or after a byte, and those from that on
+-- the symbols before the first one that begins at or after a byte, and those from that one on
 abbrev pub before : ℕ → Forest → Forest
 before byte nothing = nothing
 before byte (symbol s inner following) = if nat_lt s.start byte then symbol s inner (before byte following) else nothing
@@ -26,12 +26,12 @@ abbrev pub from : ℕ → Forest → Forest
 from byte nothing = nothing
 from byte (symbol s inner following) = if nat_lt s.start byte then from byte following else symbol s inner following
 
--- symbols in the order of their starts: in each are those after it that begin before its end
+-- symbols in the order of their starts: those that begin before the end of one are inside it
 abbrev pub nested : List Outlined → Forest
 nested [] = nothing
 nested (s ∷ ss) = symbol s (before s.end (nested ss)) (from s.end (nested ss))
 
--- what a symbol is called, and the number that the protocol has for a namespace and a function
+-- the word for a kind of symbol, and the number that the protocol has for a namespace and for a function
 abbrev pub kind_name : SymbolKind → List ℕ
 kind_name Block = codes "block"
 kind_name Component = codes "component"
@@ -61,28 +61,28 @@ outline_json e text symbols = array (symbol_items e text (nested symbols))
 abbrev pub IsOutline : Encoding → List ℕ → Json → Type 0
 IsOutline e text j = (parts : List Part) × ArePartsOf text parts × (j ≡ outline_json e text (outline_of (length text) parts))
 
--- ---- what is so of it
+-- ---- what holds of it
 
 -- all symbols, each before those in it and after it
 abbrev pub in_order : Forest → List Outlined
 in_order nothing = []
 in_order (symbol s inner following) = s ∷ (in_order inner ++ in_order following)
 
--- what is in a symbol begins after its start and ends no later than it, and what comes after it begins no earlier than
--- it ends
+-- what is inside a symbol begins after its start and ends no later than it, and what comes after it begins no earlier
+-- than its end
 abbrev pub AreWithin : Forest → Type 0
 AreWithin nothing = Unit {0}
 AreWithin (symbol s inner following) =
     AllByRecursion (λ (i : Outlined). (s.start < i.start) × (i.end ≤ s.end)) (in_order inner)
     × AllByRecursion (λ (b : Outlined). s.end ≤ b.start) (in_order following) × AreWithin inner × AreWithin following
 
--- the positions of a name are within those of its symbol
+-- the range of a name is within the range of its symbol
 pub record IsSelectable (e : Encoding) (text : List ℕ) (s : Outlined) : Type 0 where
   pub begins : IsUpTo (position_at e text s.start) (position_at e text s.name_start)
   pub named : IsUpTo (position_at e text s.name_start) (position_at e text s.name_end)
   pub ends : IsUpTo (position_at e text s.name_end) (position_at e text s.end)
 
--- ---- as it is written
+-- ---- the tokens
 
 -- a symbol up to its children
 unfoldable pub symbol_begin : Encoding → List ℕ → Outlined → List Token
@@ -94,8 +94,8 @@ symbol_begin e text s =
     ++ (member_tokens (codes "selectionRange") (range_json (position_at e text s.name_start) (position_at e text s.name_end))
     ++ (key (codes "children") ∷ begin_array ∷ []))))))
 
--- of symbols that were begun, by their ends, the innermost first: those that end at or before a byte are ended, and
--- these stay open
+-- for open symbols, by their ends, the innermost first: those that end at or before a byte are ended, and these stay
+-- open
 abbrev pub end_tokens : ℕ → List ℕ → List Token
 end_tokens byte [] = []
 end_tokens byte (end ∷ ends) = if nat_lt byte end then [] else end_array ∷ end_object ∷ end_tokens byte ends

@@ -54,7 +54,7 @@ abbrev pub reference_json : LookedFor → Source → Named → Json
 reference_json k s n =
     location_json (uri_in s.name (seen_of k.editor s.name)) (position_at k.encoding s.text n.start) (position_at k.encoding s.text n.end)
 
--- those in a file that refer to it, in the order of its text
+-- the names in a file that refer to it, in the order of its text
 abbrev pub AreReferencesIn : LookedFor → Source → List Json → Type 0
 AreReferencesIn k s js =
     (parts : List Part) × ArePartsOf s.text parts × (js ≡ map (reference_json k s) (filter (refers k) (names_of parts)))
@@ -65,14 +65,14 @@ AreReferences k [] js = js ≡ []
 AreReferences k (s ∷ ss) js =
     (first : List Json) × (rest : List Json) × AreReferencesIn k s first × AreReferences k ss rest × (js ≡ first ++ rest)
 
--- the array of all
+-- the array of all places
 abbrev pub IsList : LookedFor → List Source → Json → Type 0
 IsList k sources j = (js : List Json) × AreReferences k sources js × (j ≡ array (items_of js))
 
--- ---- what is so of them
+-- ---- what holds of them
 
--- a name is that of what is looked for, both stand for a component or both for a template, and it is not a definition
--- where these do not count
+-- a name is looked for: it has the text, both stand for a component or both for a template, and it is not a definition
+-- if these do not count
 pub record IsLookedFor (k : LookedFor) (n : Named) : Type 0 where
   pub text : n.text ≡ k.named.text
   pub alike : is_component n.kind ≡ is_component k.named.kind
@@ -93,7 +93,7 @@ pub record AreAllOf (k : LookedFor) (s : Source) (reported : List Json) : Type 0
   pub are : ArePartsOf s.text parts
   pub each : (n : Named) → Contains (names_of parts) n → IsLookedFor k n → Contains reported (reference_json k s n)
 
--- ---- as it is written
+-- ---- the tokens
 
 unfoldable pub reference_tokens : LookedFor → Source → Named → List Token
 reference_tokens k s n = if refers k n then json_tokens (reference_json k s n) else []

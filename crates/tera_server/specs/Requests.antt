@@ -1,4 +1,4 @@
--- What requests are answered.
+-- The answers to requests.
 use Rattle.std.specs.Prelude.{◌≡◌, ◌⊎◌, ◌++◌, if◌then◌else◌, ℕ, List, [], ◌∷◌, Bool, true, false, codes, map, string_bytes, MatchResult, Option, None, Some, Result, Vec}
 use Rattle.std.specs.Option.{option_map_or}
 use Rattle.std.specs.Str.{bytes_eq}
@@ -48,7 +48,7 @@ use Rattle.tera_server.specs.declared.server.Phase.{Phase}
 use Rattle.tera_server.specs.declared.server.Phase.TheVariants.{New, Running, ShutDown}
 use Rattle.tera_server.specs.declared.server.Server.{Server}
 
--- what a method asks
+-- what the request of a method asks
 abbrev pub asked_of : List ℕ → Asked
 asked_of m =
     if bytes_eq m (codes "initialize") then asks.Initialize
@@ -67,12 +67,12 @@ abbrev pub folders_by : Option Json → List Json → List (Option (List ℕ))
 folders_by params [] = text_in (member_of (codes "rootUri") params) ∷ []
 folders_by params (j ∷ js) = map item_uri (j ∷ js)
 
--- the URIs of the folders that are open: those of the workspace, or its root where it says none
+-- the URIs of the folders that are open: those of the workspace, or its root if it has none
 abbrev pub folders_in : Option Json → List (Option (List ℕ))
 folders_in params = folders_by params (items_in (member_of (codes "workspaceFolders") params))
 
--- the exchange has begun: the client is known, and no document is; what the editor reported, and what is asked for and
--- is to be published, is what it was
+-- the exchange has begun: the client is known, and no document is; what the editor reported, what is asked for and what
+-- is to be published do not change
 pub record IsBegun (params : Option Json) (s t : Server) : Type 0 where
   pub same : t ≡ record s { phase = t.phase; client = t.client; folders = t.folders; workspace = t.workspace }
   pub phase : t.phase ≡ Running
@@ -83,7 +83,7 @@ pub record IsBegun (params : Option Json) (s t : Server) : Type 0 where
   pub reported : (n : List ℕ) → reported_of_name t.workspace n ≡ []
   pub kept : IsKept t.workspace
 
--- this is the text of the document of a name, which the editor has open
+-- the editor has the document of a name open, and this is its text
 abbrev pub IsOpenAs : List ℕ → Server → List ℕ → Type 0
 IsOpenAs name s text = (state_of s.editor name ≡ Open) × (text_of (document_of s.workspace.documents name) ≡ Some text)
 
@@ -95,7 +95,7 @@ IsMeantAs (Some uri) s name text = IsNameOf uri name × IsOpenAs name s text
 abbrev pub IsMeant : Option (List ℕ) → Server → List ℕ → Type 0
 IsMeant uri s text = (name : List ℕ) × IsMeantAs uri s name text
 
--- the position that parameters say, and the range
+-- the position in parameters, and the range
 abbrev pub place_in : Option Json → Option Position
 place_in params = position_in (member_of (codes "position") params)
 
@@ -108,7 +108,7 @@ IsNamed None uri s named = ⊥
 IsNamed (Some position) uri s named =
     (text : List ℕ) × IsMeant uri s text × IsNamedAt s.client.encoding text position named
 
--- documents that changed may have been read, and nothing that is seen of the server is another
+-- documents that changed may have been read, and nothing else of the server changes
 pub record HasRead (s t : Server) : Type 0 where
   pub rest : t ≡ record s { workspace = t.workspace }
   pub encoding : t.workspace.encoding ≡ s.workspace.encoding
@@ -116,7 +116,7 @@ pub record HasRead (s t : Server) : Type 0 where
   pub reported : (n : List ℕ) → reported_of_name t.workspace n ≡ reported_of_name s.workspace n
   pub kept : IsKept s.workspace → IsKept t.workspace
 
--- the documents are read as they are, and this is given by them
+-- the documents were read as they are, and this is the result by them
 pub record IsOfCurrentTexts (Holds : Server → Json → Type 0) (s : Server) (j : Json) (t : Server) : Type 0 where
   pub read : IsKept s.workspace → AreRead t.workspace
   pub reported : Holds t j
@@ -128,13 +128,13 @@ AreListed declared None t j = j ≡ null
 AreListed declared (Some n) t j =
     IsList (record { named = n; declared = declared; editor = t.editor; encoding = t.client.encoding }) (texts_read t.workspace) j
 
--- the result of a request of a text: its layout, its outline or its coloured tokens
+-- the result of a request about a text: its layout, its outline or its coloured tokens
 abbrev pub IsResultOfText : TextRequest → Encoding → List ℕ → Json → Type 0
 IsResultOfText of_text.Formatting encoding text j = IsLayout encoding text j
 IsResultOfText of_text.Symbols encoding text j = IsOutline encoding text j
 IsResultOfText of_text.SemanticTokens encoding text j = AreTokens encoding text j
 
--- .. of the document of a URI; null, where the settings say that it is not read between its markers
+-- .. about the document of a URI; null, if the settings say that it has other markers
 abbrev pub has_other_markers : Server → List ℕ → Bool
 has_other_markers s name = option_map_or (λ settings. settings.other_markers) (settings_for s.settings (map string_bytes s.folders.items) name) false
 
@@ -147,7 +147,8 @@ IsResultOfDocument request uri s j =
     (name : List ℕ) × (text : List ℕ) × IsMeantAs uri s name text
     × IsReadAs (has_other_markers s name) (IsResultOfText request s.client.encoding text) j
 
--- .. and of a name: the place that it leads to, the head of its definition, or the places that refer to what it stands for
+-- .. and about a name: the place that it leads to, the head of its definition, or the places that refer to what it
+-- stands for
 abbrev pub IsResultOfName : NameRequest → Option Json → Option Named → Server → Json → Type 0
 IsResultOfName of_name.Definition params named t j =
     j ≡ place_json t.editor (place_of t.workspace (map string_bytes t.folders.items) named)
@@ -161,7 +162,7 @@ IsOffered (Some position) uri s j =
     (name : List ℕ) × (text : List ℕ) × IsMeantAs uri s name text
     × IsCompletion s.client.encoding s.workspace (map string_bytes s.folders.items) (registered_for s.settings (map string_bytes s.folders.items) name) text position j
 
--- this is what the component takes in whose call the position is
+-- this is what the component takes whose call the position is in
 abbrev pub IsSignedAt : Option Position → Option (List ℕ) → Server → Json → Type 0
 IsSignedAt None uri s j = ⊥
 IsSignedAt (Some position) uri s j =
@@ -183,7 +184,7 @@ AreOfRange wanted (Some range) uri s j =
     (name : List ℕ) × (text : List ℕ) × IsMeantAs uri s name text
     × AreWanted wanted (acting_of s) (record { name = name; text = text }) range j
 
--- the result of a request of a position: of what is named there, or what may be typed there
+-- the result of a request about a position: about the name there, or about what may be typed there
 abbrev pub IsResultAt : PlaceRequest → Option Json → Server → Json → Type 0
 IsResultAt (at_place.OfName request) params t j =
     (named : Option Named) × IsNamed (place_in params) (uri_given (document_in params)) t named × IsResultOfName request params named t j
@@ -199,7 +200,7 @@ Gives Running (asks.AtPlace request) s params j t = IsOfCurrentTexts (IsResultAt
 Gives Running asks.Actions s params j t = IsOfCurrentTexts (AreOfRange (wants_corrections params) (range_given params) (uri_given (document_in params))) s j t
 Gives _ _ s params j t = ⊥
 
--- why a document is refused: the editor has it not open, or with a text that is not known
+-- why there is no result for a document: the editor does not have it open, or its text is not known
 abbrev pub RefusesState : DocumentState → Option (List ℕ) → Code → Type 0
 RefusesState Open text code = (text ≡ None) × (code ≡ codes_of.InvalidParams)
 RefusesState Lost text code = code ≡ codes_of.RequestFailed
@@ -212,7 +213,7 @@ abbrev pub RefusesDocument : Option (List ℕ) → Server → Code → Type 0
 RefusesDocument None s code = code ≡ codes_of.InvalidParams
 RefusesDocument (Some uri) s code = (name : List ℕ) × IsNameOf uri name × IsNotOpen name s code
 
--- .. or no position, or range, is reported
+-- .. or there is no position, or no range
 abbrev pub RefusesPlace : {A : Type 0} → Option A → Option (List ℕ) → Server → Code → Type 0
 RefusesPlace None uri s code = code ≡ codes_of.InvalidParams
 RefusesPlace (Some place) uri s code = RefusesDocument uri s code
@@ -229,25 +230,26 @@ IsDue Running asks.Actions s params code = RefusesPlace (range_given params) (ur
 IsDue Running asks.Other s params code = code ≡ codes_of.MethodNotFound
 IsDue ShutDown _ s params code = code ≡ codes_of.InvalidRequest
 
--- what one that has no result leaves as it is: everything; but where it asks what is at a place, or for actions, documents
--- may have been read
+-- what a request without a result does not change: everything; except that documents may have been read, if it asks
+-- about a place or for actions
 abbrev pub Remains : Phase → Asked → Server → Server → Type 0
 Remains Running (asks.AtPlace request) s t = HasRead s t
 Remains Running asks.Actions s t = HasRead s t
 Remains _ _ s t = t ≡ s
 
--- what `Gives` says while the exchange runs, but that `shutdown` has not ended it yet
+-- what `Gives` says while the exchange runs, except that `shutdown` has not ended it yet
 abbrev pub IsResultWithin : Asked → Server → Option Json → Json → Server → Type 0
 IsResultWithin asks.Shutdown s params j t = (j ≡ null) × (t ≡ s)
 IsResultWithin asked s params j t = Gives Running asked s params j t
 
--- the result is written, or it is reported why there is none
+-- the result is written, or the reason is returned why there is none
 abbrev pub IsPut : Asked → Server → Option Json → List Token → Result (Unit {0}) Code → Server → List Token → Type 0
 IsPut asked s params old r t now =
     MatchResult r (λ _. (j : Json) × IsResultWithin asked s params j t × (now ≡ old ++ json_tokens j))
     (λ code. Remains Running asked s t × ((code ≡ codes_of.InternalError) ⊎ IsDue Running asked s params code))
 
--- it is answered by its result; or it is refused, and nothing changes: for a reason, or because an allocation failed
+-- a request is answered by its result; or by an error, and nothing changes: for a reason, or because an allocation
+-- failed
 abbrev pub IsAnsweredBy : Server → IdVal → Asked → Option Json → Result (Vec ℕ Global) Code → Server → Type 0
 IsAnsweredBy s id asked params r t =
     MatchResult r (λ v. (j : Json) × Gives s.phase asked s params j t × (v.items ≡ body (answer id j)))

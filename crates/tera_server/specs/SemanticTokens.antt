@@ -59,7 +59,7 @@ legend_json =
     object (member (codes "tokenTypes") (array (items_of (map kind_json all_kinds)))
     (member (codes "tokenModifiers") (array no_items) no_members))
 
--- a token of a text by its position
+-- a token of a text with its position
 abbrev pub placed : Encoding → List ℕ → SemanticToken → Placed
 placed e text t = record {
   start = position_at e text t.start;
@@ -67,7 +67,7 @@ placed e text t = record {
   kind = t.kind;
 }
 
--- how many units are before a position on its line, after another if that is on the line
+-- how many units are before a position on its line, or between the two if the last one is on the line too
 abbrev pub distance : Position → Position → ℕ
 distance last p = if p.line == last.line then p.character - last.character else p.character
 
@@ -92,9 +92,9 @@ tokens_json e text tokens = object (member (codes "data") (array (items_of (map 
 abbrev pub AreTokens : Encoding → List ℕ → Json → Type 0
 AreTokens e text j = (parts : List Part) × ArePartsOf text parts × (j ≡ tokens_json e text (semantic_tokens_of text parts))
 
--- ---- what is so of it
+-- ---- what holds of it
 
--- a token as a client reads it: where it begins, how long it is, and the number of its kind
+-- a token as a client reads it: where it begins, its length, and the number of its kind
 pub record SentToken : Type 0 where
   pub start : Position
   pub length : ℕ
@@ -109,22 +109,22 @@ moved p line character =
     if line == 0 then record { line = p.line; character = p.character + character }
     else record { line = p.line + line; character = character }
 
--- what numbers say after a position
+-- the tokens that numbers stand for, after a position
 abbrev pub read_from : Position → List ℕ → List SentToken
 read_from p (line ∷ character ∷ length ∷ kind ∷ modifiers ∷ ns) =
     record { start = moved p line character; length = length; kind = kind } ∷ read_from (moved p line character) ns
 read_from p ns = []
 
--- the position after a token on its line
+-- the position where a token ends, on its line
 abbrev pub end_of : Placed → Position
 end_of t = record { line = t.start.line; character = t.start.character + t.length }
 
--- each begins at or after the end of the one before, the first at or after a position
+-- each token begins at or after the end of the one before, and the first at or after a position
 abbrev pub AreApart : Position → List Placed → Type 0
 AreApart p [] = Unit {0}
 AreApart p (t ∷ ts) = IsUpTo p t.start × AreApart (end_of t) ts
 
--- ---- as it is written
+-- ---- the tokens of JSON
 
 unfoldable pub number_tokens : ℕ → List Token
 number_tokens n = json_tokens (number_json n)

@@ -1,4 +1,4 @@
--- What is sent of documents.
+-- What is sent about documents.
 use Rattle.std.specs.Prelude.{◌≡◌, ◌++◌, ℕ, List, [], ◌∷◌, Bool, if◌then◌else◌, map, string_bytes}
 use Rattle.std.specs.List.{flat_map}
 use Rattle.std.specs.Option.{option_map_or}
@@ -25,8 +25,8 @@ use Rattle.tera_server.specs.UnreadFiles.{why_of}
 abbrev pub with_all : Outgoing → List (List ℕ) → Outgoing
 with_all o messages = record { sent = o.sent ++ messages; reserved = o.reserved }
 
--- by what is published: what the editor has, which files cannot be read, whether what explains a finding is reported, the
--- settings, and the folders that are open
+-- what messages depend on: what the editor has, which files cannot be read, whether the notes of a finding are sent,
+-- the settings, and the folders that are open
 pub record Publisher : Type 0 where
   pub editor : Editor
   pub unread : UnreadFiles
@@ -56,12 +56,12 @@ publisher_of s = record {
 abbrev pub unknown_for : Publisher → Workspace → List ℕ → List DiagnosticVal
 unknown_for p w n = option_map_or (λ settings. unknown_of_name w (registered_in settings) n) (listing_for p.settings p.folders n) []
 
--- of what was reported for the document of a name last, and of these, what is on by the settings, as grave as its rules
--- count for
+-- what was reported last for the document of a name, and these, as far as they are on by the settings, with the
+-- severities of their rules
 abbrev pub shown_of : Publisher → Workspace → List ℕ → List DiagnosticVal
 shown_of p w n = shown_in (reported_for p.settings p.folders n) (reported_of_name w n ++ unknown_for p w n)
 
--- what is published of the document of a name: why its file cannot be read, or is wrong, and that
+-- what is published for the document of a name: why its file cannot be read, or is wrong, and its findings
 unfoldable pub found_message : Publisher → Workspace → List ℕ → List ℕ
 found_message p w n = body (published p.editor p.related n (why_of p.unread n) (shown_of p w n))
 
@@ -71,19 +71,19 @@ unless_lost Open message = message ∷ []
 unless_lost Lost message = []
 unless_lost Closed message = message ∷ []
 
--- that of documents, in order
+-- the messages for documents, in order
 abbrev pub messages_in : Publisher → Workspace → List (List ℕ) → List (List ℕ)
 messages_in p w ns = flat_map (λ n. unless_lost (state_of p.editor n) (found_message p w n)) ns
 
 abbrev pub messages_of : Server → List (List ℕ) → List (List ℕ)
 messages_of s ns = messages_in (publisher_of s) s.workspace ns
 
--- the messages of the first ones of some documents were sent
+-- the messages for the first of some documents were sent
 abbrev pub SendsFirst : (List (List ℕ) → List (List ℕ)) → List (List ℕ) → Outgoing → Outgoing → Type 0
 SendsFirst messages ns old now =
     (first : List (List ℕ)) × (rest : List (List ℕ)) × (ns ≡ first ++ rest) × (now ≡ with_all old (messages first))
 
--- the names of the documents of which something is to be published still
+-- the names of the documents that are still to be published
 abbrev pub unpublished_of : Server → List (List ℕ)
 unpublished_of s = map string_bytes s.unpublished.items
 

@@ -20,20 +20,20 @@ use Rattle.tera_server.specs.declared.settings.Reported.TheVariants as reported_
 use Rattle.tera_server.specs.declared.settings.RuleSetting.{RuleSetting}
 use Rattle.tera_server.specs.declared.settings.Settings.{Settings}
 
--- the name of a rule, and what it is set to: a severity, or none where it is off
+-- the name of a rule, and what it is set to: a severity, or none if it is off
 abbrev pub RuleVal : Type 0
 RuleVal = List ℕ × Option Severity
 
 abbrev pub rule_view : RuleSetting → RuleVal
 rule_view r = (string_bytes r.rule, r.level)
 
--- .. as `tera check` has it
+-- .. in the form of `tera check`
 abbrev pub level_view : RuleLevel → RuleVal
 level_view r = (r.rule.now, r.level)
 
--- the ends of the names of templates, if they are not as usual; what is left out; libraries; whether templates are
--- between other markers; what rules are set to; and the names of filters, tests and functions that the program registers,
--- as far as they are known
+-- how the names of templates end, if not as usual; what is left out; libraries; whether templates have other markers;
+-- what rules are set to; and the names of filters, tests and functions that the program registers, as far as they are
+-- known
 pub record SettingsVal : Type 0 where
   pub extensions : Option (List (List ℕ))
   pub exclude : List (List ℕ)
@@ -62,32 +62,32 @@ settings_view s = record {
   functions = list_in s.functions;
 }
 
--- of a folder, and the file that they are from
+-- the settings of a folder, and the file that they come from
 abbrev pub settings_in : Settings → List ℕ → Option SettingsVal
 settings_in s folder = option_map settings_view (get_by_text s.of_folders folder)
 
 abbrev pub file_in : Settings → List ℕ → Option (List ℕ)
 file_in s folder = option_map string_bytes (get_by_text s.files folder)
 
--- those of a folder are these, or none, and the others are what they were; and so of the file
+-- the settings of a folder are these, or none, and nothing else changes; and the same for its file
 abbrev pub IsSetAt : List ℕ → Option SettingsVal → Settings → Settings → Type 0
 IsSetAt folder settings old now = (f : List ℕ) → settings_in now f ≡ cond (bytes_eq folder f) settings (settings_in old f)
 
 abbrev pub IsFileAt : List ℕ → Option (List ℕ) → Settings → Settings → Type 0
 IsFileAt folder file old now = (f : List ℕ) → file_in now f ≡ cond (bytes_eq folder f) file (file_in old f)
 
--- the first of folders that is at a path, or has it in it
+-- the first of the folders that is the path, or contains it
 abbrev pub holds : List ℕ → List ℕ → Bool
 holds folder path = bytes_eq folder path || is_inside folder path
 
 abbrev pub folder_of : List (List ℕ) → List ℕ → Option (List ℕ)
 folder_of folders path = find (λ f. holds f path) folders
 
--- those that count for a path
+-- the settings for a path
 abbrev pub settings_for : Settings → List (List ℕ) → List ℕ → Option SettingsVal
 settings_for s folders path = option_and_then (settings_in s) (folder_of folders path)
 
--- the names that the program registers, by the settings that count for a file
+-- the names that the program registers, by the settings for a file
 pub record RegisteredVal : Type 0 where
   pub filters : List (List ℕ)
   pub tests : List (List ℕ)
@@ -103,7 +103,7 @@ registered_by (Some settings) = record { filters = unwrap_or settings.filters []
 abbrev pub registered_for : Settings → List (List ℕ) → List ℕ → RegisteredVal
 registered_for s folders file = registered_by (settings_for s folders file)
 
--- some of what the program registers is listed
+-- names that the program registers are listed
 abbrev pub has_list : SettingsVal → Bool
 has_list settings = is_some settings.filters || is_some settings.tests || is_some settings.functions
 
@@ -114,22 +114,22 @@ has_list_if_any (Some settings) = has_list settings
 abbrev pub if_listing : SettingsVal → Option SettingsVal
 if_listing settings = if has_list settings then Some settings else None
 
--- the settings that count for a file, if they list some
+-- the settings for a file, if they list registered names
 abbrev pub listing_for : Settings → List (List ℕ) → List ℕ → Option SettingsVal
 listing_for s folders file = option_and_then if_listing (settings_for s folders file)
 
--- what the program registers by lists: what is listed; where a list is absent, anything
+-- what the program registers, by lists: what is listed; if a list is absent, anything
 abbrev pub registered_in : SettingsVal → ByLists
 registered_in settings = record { filters = is_listed settings.filters; tests = is_listed settings.tests; functions = is_listed settings.functions }
 
--- a file is one of a library of some folder
+-- a file is in a library of some folder
 abbrev pub has_library : List ℕ → String Global × FolderSettings → Bool
 has_library file (folder, s) = is_some (folder_of (map string_bytes s.libraries.items) file)
 
 abbrev pub is_in_library : Settings → List ℕ → Bool
 is_in_library s file = list_any (has_library file) s.of_folders.entries
 
--- what is reported of a file: what counts for anything where rules are set so, no more than faults, or nothing
+-- what is reported of a file: all that is on if rules are set so, only faults, or nothing
 pub data Shown : Type 0 where
   ByRules : List RuleVal → Shown
   FaultsAlone : Shown
@@ -140,7 +140,7 @@ reported_view (reported_as.By rules) = ByRules (map rule_view rules.now)
 reported_view reported_as.Faults = FaultsAlone
 reported_view reported_as.Nothing = NoFindings
 
--- in a folder by its settings: between other markers nothing is
+-- for a folder, by its settings: nothing, if templates have other markers
 abbrev pub reported_with : SettingsVal → Shown
 reported_with settings = if settings.other_markers then NoFindings else ByRules settings.rules
 
@@ -148,7 +148,7 @@ abbrev pub reported_in : Option SettingsVal → Shown
 reported_in None = ByRules []
 reported_in (Some settings) = reported_with settings
 
--- .. and of another one in a library no more than faults
+-- .. and for a file outside of the folders: only faults, if it is in a library
 abbrev pub reported_by : Settings → List ℕ → Option (List ℕ) → Shown
 reported_by s file (Some folder) = reported_in (settings_in s folder)
 reported_by s file None = if is_in_library s file then FaultsAlone else ByRules []
@@ -156,7 +156,7 @@ reported_by s file None = if is_in_library s file then FaultsAlone else ByRules 
 abbrev pub reported_for : Settings → List (List ℕ) → List ℕ → Shown
 reported_for s folders file = reported_by s file (folder_of folders file)
 
--- what a kind counts for where rules are set so: none where it is off; what it counts for by itself, where nothing is set
+-- the level of a kind if rules are set so: none if it is off; its default level, if nothing is set
 abbrev pub level_in : List RuleVal → Kind → Option Severity
 level_in rules kind = option_map_or (λ r. r.1) (find (λ r. bytes_eq r.0 (kind_name kind)) rules) (default_level kind)
 
@@ -165,7 +165,7 @@ set_level (ByRules rules) kind = level_in rules kind
 set_level FaultsAlone kind = None
 set_level NoFindings kind = None
 
--- faults are errors, whatever is set, and reported if anything is
+-- faults are always errors, and reported if anything is
 abbrev pub fault_level : Shown → Kind → Option Severity
 fault_level (ByRules rules) kind = Some (severity_of kind)
 fault_level FaultsAlone kind = Some (severity_of kind)
@@ -177,7 +177,7 @@ level_by shown kind = if is_fault kind then fault_level shown kind else set_leve
 abbrev pub is_on : Shown → Kind → Bool
 is_on shown kind = is_some (level_by shown kind)
 
--- a finding as it is reported: as grave as its kind counts for; none where it is off
+-- a finding as it is reported: with the severity that its kind has; none if it is off
 abbrev pub shown_as : Shown → DiagnosticVal → Option DiagnosticVal
 shown_as shown d = option_map (λ severity. record d { severity = severity }) (level_by shown d.kind)
 

@@ -11,13 +11,13 @@ use Rattle.tera_server.specs.declared.server.Phase.{Phase}
 use Rattle.tera_server.specs.declared.server.Phase.TheVariants.{New, Running, ShutDown}
 use Rattle.tera_server.specs.declared.server.Server.{Server}
 
--- the documents of which something is to be published: those that the editor opened, changed or closed, and those of
--- which it was reported and not published yet
+-- the documents that are to be published: those that the editor opened, changed or closed, and those with new findings
+-- that were not published yet
 abbrev pub due_of : Server → List (List ℕ)
 due_of s = edited_of s ++ unpublished_of s
 
--- what is reported now is published: of the documents of which something was to be, and of those of which something
--- else is reported than before, once of each
+-- what is reported now is published: for the documents that were to be published, and for those with other findings
+-- than before, once for each
 pub record ArePublished (s t : Server) (old now : Outgoing) : Type 0 where
   pub settled : IsKept s.workspace → IsSettled t.workspace
   pub read : IsKept s.workspace → AreRead t.workspace
@@ -27,13 +27,13 @@ pub record ArePublished (s t : Server) (old now : Outgoing) : Type 0 where
   pub unpublished : unpublished_of t ≡ []
   pub edited : edited_of t ≡ []
 
--- once the exchange has begun; before and after it nothing is
+-- this holds once the exchange has begun; before it and after it nothing is published
 abbrev pub IsSettling : Phase → Server → Server → Outgoing → Outgoing → Type 0
 IsSettling New s t old now = (t ≡ s) × (now ≡ old)
 IsSettling Running s t old now = ArePublished s t old now
 IsSettling ShutDown s t old now = (t ≡ s) × (now ≡ old)
 
--- if an allocation fails: a part of that, and the rest is to be published still
+-- if an allocation fails, a part is published, and the rest is still to be published
 pub record ArePublishedInPart (s t : Server) (old now : Outgoing) : Type 0 where
   pub names : List (List ℕ)
   pub sent : now ≡ with_all old (messages_of t names)
@@ -41,7 +41,7 @@ pub record ArePublishedInPart (s t : Server) (old now : Outgoing) : Type 0 where
   pub due : (n : List ℕ) → is_among n (due_of s) ≡ true → (is_among n names ≡ true) ⊎ (is_among n (due_of t) ≡ true)
   pub only : (n : List ℕ) → is_among n names ≡ true → (is_among n (due_of s) ≡ true) ⊎ (is_among n (unpublished_of t) ≡ true)
 
--- nothing changes but what is reported, and what is to be published
+-- only what is reported, and what is to be published, changes
 pub record OnlyReports (s t : Server) : Type 0 where
   pub same : t ≡ record s { workspace = t.workspace; unpublished = t.unpublished; edited = t.edited }
   pub documents : AreSame s.workspace.documents t.workspace.documents

@@ -21,7 +21,7 @@ use Rattle.text_edits.specs.declared.positions.Position.{Position}
 use Rattle.tera_server.specs.Hovers.{text_at}
 use Rattle.tera_server.specs.declared.client.Client.{Client}
 
--- a parameter by the bytes of the head between which its name is, or by its name
+-- a parameter by the bytes of its name in the head, or by its name
 abbrev pub placed_json : ℕ → ℕ → Json
 placed_json start end = object (member (codes "label") (array (item (number_json start) (item (number_json end) no_items))) no_members)
 
@@ -35,8 +35,8 @@ parameter_json false p = label_json p.name
 unfoldable pub parameter_tokens : Bool → ParameterVal → List Token
 parameter_tokens placed p = json_tokens (parameter_json placed p)
 
--- by their bytes, for a client that takes this. The protocol counts the characters of a head in UTF-16: these are its
--- bytes where all are in ASCII.
+-- By their bytes, if the client accepts this and the head is in ASCII: the protocol counts the characters of a head in
+-- UTF-16, and these are its bytes then.
 abbrev pub are_placed : Bool → List ℕ → Bool
 are_placed labels head = labels && list_all is_ascii head
 
@@ -53,7 +53,7 @@ marked_json labels s n =
     (member (codes "activeSignature") (number_json 0)
     (member (codes "activeParameter") (number_json n) no_members)))
 
--- a head alone: if no parameter is active, the protocol takes the first for active
+-- a head without parameters: if none is active, the protocol takes the first as active
 abbrev pub plain_json : List ℕ → Json
 plain_json head =
     object (member (codes "signatures")
@@ -64,16 +64,16 @@ abbrev pub signed_json : Bool → SignatureVal → Option ℕ → Json
 signed_json labels s None = plain_json s.head
 signed_json labels s (Some n) = marked_json labels s n
 
--- the head, and its parameters where the argument is for one of them
+-- the head, and its parameters if the argument is for one of them
 abbrev pub signature_json : Bool → SignatureVal → Option (List ℕ) → Json
 signature_json labels s argument = signed_json labels s (active_number s.parameters argument)
 
--- that of a component, if it has one
+-- the signature of a component, if it has one
 abbrev pub reported : Bool → Option (List ℕ) → Option SignatureVal → Json
 reported labels argument None = null
 reported labels argument (Some s) = signature_json labels s argument
 
--- this is the signature of the first definition of a component in a text, if one is there
+-- this is the signature of the first definition of a component in a text, if it has one
 abbrev pub IsSignedIn : Option (List ℕ) → List ℕ → Option SignatureVal → Type 0
 IsSignedIn None name s = s ≡ None
 IsSignedIn (Some text) name s = (parts : List Part) × ArePartsOf text parts × (s ≡ signature_of text parts name)
@@ -82,7 +82,7 @@ IsSignedIn (Some text) name s = (parts : List Part) × ArePartsOf text parts × 
 abbrev pub IsSignedBy : Workspace → List ℕ → Option SignatureVal → Type 0
 IsSignedBy w name s = IsSignedIn (text_at w (definition_of_name w name)) name s
 
--- what is reported for the component that is named in a call
+-- what is sent for the component that is named in a call
 abbrev pub IsSignatureOf : Bool → Workspace → Option (List ℕ) → Option (List ℕ) → Json → Type 0
 IsSignatureOf labels w None argument j = j ≡ null
 IsSignatureOf labels w (Some name) argument j = (s : Option SignatureVal) × IsSignedBy w name s × (j ≡ reported labels argument s)
@@ -90,7 +90,7 @@ IsSignatureOf labels w (Some name) argument j = (s : Option SignatureVal) × IsS
 abbrev pub IsSignatureBy : Bool → Workspace → List Named → InCallVal → Json → Type 0
 IsSignatureBy labels w named c j = IsSignatureOf labels w (option_map (λ n. n.text) (find (holds c.call) named)) c.argument j
 
--- .. in whose call a place is
+-- .. whose call a place is in
 abbrev pub IsSignatureIn : Bool → Workspace → List Named → Option InCallVal → Json → Type 0
 IsSignatureIn labels w named None j = j ≡ null
 IsSignatureIn labels w named (Some c) j = IsSignatureBy labels w named c j

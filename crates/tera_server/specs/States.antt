@@ -1,4 +1,4 @@
--- What is seen of a server: the documents by their names, and what it asks for.
+-- What is visible of a server: the documents by their names, and what it asks for.
 use Rattle.std.specs.Prelude.{◌≡◌, ◌⊎◌, ◌++◌, ◌&&◌, if◌then◌else◌, cond, ℕ, List, [], ◌∷◌, Bool, true, false, not, filter, map, string_bytes, Option, None, Some}
 use Rattle.std.specs.List.{list_any}
 use Rattle.std.specs.Option.{option_eq, option_map, is_some}
@@ -31,23 +31,23 @@ pub record Known : Type 0 where
 abbrev pub known_of : Server → List ℕ → Known
 known_of s n = record { seen = seen_of s.editor n; texts = document_of s.workspace.documents n }
 
--- the document of this name is another, by a function, and the others are what they were
+-- the document of this name changes by a function, and nothing else changes
 abbrev pub IsKnownAt : List ℕ → (Known → Known) → Server → Server → Type 0
 IsKnownAt name change s t = (n : List ℕ) → known_of t n ≡ cond (bytes_eq name n) (change (known_of s n)) (known_of s n)
 
--- opened under a URI and in a version, with a text
+-- opened with a URI, a version and a text
 abbrev pub opened_as : List ℕ → Option ℕ → List ℕ → Known → Known
 opened_as uri version text k = record {
   seen = Some (record { uri = uri; version = version; state = Open });
   texts = opened text k.texts;
 }
 
--- whether a change says the whole text
+-- whether a change has the whole text
 abbrev pub is_whole : ChangeView → Bool
 is_whole (NewText text) = true
 is_whole (NewPart start end text) = false
 
--- whether changes are made: of a text that is known, or where one of them says the whole text
+-- whether changes are taken: if the text is known, or if one of them has the whole text
 abbrev pub takes : DocumentState → List ChangeView → Bool
 takes Open changes = true
 takes Lost changes = list_any is_whole changes
@@ -56,7 +56,7 @@ takes Closed changes = false
 abbrev pub with_lost : Known → Known
 with_lost k = record { seen = option_map lost k.seen; texts = k.texts }
 
--- changed in a version; by malformed changes, or by parts of a text that is not known, it is lost
+-- changed to a version; malformed changes, or changes of parts of a text that is not known, lose it
 abbrev pub changed_as : Encoding → Option ℕ → Option (List ChangeView) → Known → Known
 changed_as e version None k = with_lost k
 changed_as e version (Some changes) k =
@@ -87,7 +87,7 @@ needed_view (Changed path) = NeedsChanged (string_bytes path)
 abbrev pub needed_of : Server → List NeededVal
 needed_of s = map needed_view s.needed.items
 
--- what is asked for by a name: of what is not a path nothing
+-- what is asked for by a name: nothing, if it is not a path
 abbrev pub needs_path : NeededKind → List ℕ → NeededVal
 needs_path kinds.Folder path = NeedsFolder path
 needs_path kinds.File path = NeedsFile path
@@ -110,7 +110,7 @@ names_without others ns = filter (λ n. not (list_any (λ m. bytes_eq m n) other
 
 -- ---- what is on disk
 
--- the text there, if there is one, and why there is none that could be read
+-- the text there, if there is one, and why it could not be read
 abbrev pub text_on : OnDisk → Option (List ℕ)
 text_on (on_disk.Text text) = Some (string_bytes text)
 text_on (on_disk.Unread why) = None
@@ -126,13 +126,13 @@ is_there (on_disk.Text text) = true
 is_there (on_disk.Unread why) = true
 is_there on_disk.Nothing = false
 
--- the names of those that are published anyhow, when this is why a file cannot be read: where it is something else than
--- before, the file is among them
+-- the names of the documents that are to be published in any case, if this is why a file cannot be read: if the reason
+-- changes, the file is among them
 abbrev pub edited_by : List ℕ → Option ReasonVal → Server → List (List ℕ)
 edited_by path why s = if option_eq is_same (why_of s.unread path) why then edited_of s else with_name path (edited_of s)
 
--- .. Where the settings that count for it list what the program registers, it is among them anyhow, as something else may
--- be unknown in it. Its name may be there twice then.
+-- .. If the settings for it list registered names, it is always among them, as something else may be unknown in it. Its
+-- name may be there twice then.
 abbrev pub lists_for : Server → List ℕ → Bool
 lists_for s path = has_list_if_any (settings_for s.settings (map string_bytes s.folders.items) path)
 
@@ -142,13 +142,13 @@ edited_with path why s = if lists_for s path then edited_of s ++ path ∷ [] els
 abbrev pub edited_more : List ℕ → Server → List (List ℕ)
 edited_more path s = if lists_for s path then edited_of s ++ path ∷ [] else with_name path (edited_of s)
 
--- this text is on disk under a path, or none is; and this is why the file there cannot be read, or nothing is
+-- this text is on disk under a path, or none is; and this is why the file there cannot be read, or it can be
 pub record IsLoadedAs (path : List ℕ) (text : Option (List ℕ)) (why : Option ReasonVal) (s t : Server) : Type 0 where
   pub documents : IsChangedAt path (loaded_as text) s.workspace.documents t.workspace.documents
   pub unread : IsWhyAt path why s.unread t.unread
   pub edited : edited_of t ≡ edited_with path why s
 
--- an allocation failed for that: the texts are what they were, and so is what is known of the other files
+-- an allocation failed for that: the texts do not change, and nothing that is known of the other files
 pub record IsNotLoaded (path : List ℕ) (s t : Server) : Type 0 where
   pub documents : AreSame s.workspace.documents t.workspace.documents
   pub unread : (n : List ℕ) → bytes_eq path n ≡ false → why_of t.unread n ≡ why_of s.unread n
@@ -157,14 +157,14 @@ pub record IsNotLoaded (path : List ℕ) (s t : Server) : Type 0 where
 
 -- ---- what may have been a change
 
--- what was not read may have been a change of whatever document: the text of none that is open is known any more
+-- what was not read may have been a change of any document: no text that is open is known any more
 pub record IsMissed (s t : Server) : Type 0 where
   pub same : t ≡ record s { editor = t.editor }
   pub seen : (n : List ℕ) → seen_of t.editor n ≡ option_map lost (seen_of s.editor n)
 
 -- ---- what files do not change
 
--- what was reported for documents, and how positions are counted
+-- what was reported for documents, and how positions are counted, do not change
 pub record KeepsReported (s t : Server) : Type 0 where
   pub encoding : t.workspace.encoding ≡ s.workspace.encoding
   pub reported : (n : List ℕ) → reported_of_name t.workspace n ≡ reported_of_name s.workspace n
@@ -172,7 +172,7 @@ pub record KeepsReported (s t : Server) : Type 0 where
 
 -- ---- what is still to be done
 
--- more was added after these, and none of them is gone
+-- more may have been added after these, and none of them is gone
 abbrev pub Grows : {A : Type 0} → List A → List A → Type 0
 Grows {A} old now = (more : List A) × (now ≡ old ++ more)
 

@@ -24,25 +24,25 @@ use Rattle.tera_server.specs.declared.server.Phase.{Phase}
 use Rattle.tera_server.specs.declared.server.Phase.TheVariants.{New, Running, ShutDown}
 use Rattle.tera_server.specs.declared.server.Server.{Server}
 
--- how an exchange ends: in order after `shutdown`
+-- how an exchange ends: orderly after `shutdown`
 abbrev pub ended_at : Phase → Ended
 ended_at New = Early
 ended_at Running = Early
 ended_at ShutDown = Orderly
 
--- by a notification: `exit` alone
+-- by a notification: only by `exit`
 abbrev pub ended_by : Noted → Phase → Option Ended
 ended_by notes.Exit phase = Some (ended_at phase)
 ended_by _ phase = None
 
--- what is not taken: with an id it is not a notification, and nothing changes; without one it may have been a change of
--- whatever document
+-- a message that is not taken: with an id it is not a notification, and nothing changes; without one it may have been a
+-- change of any document
 abbrev pub IsPassedOver : IdVal → Server → Server → Type 0
 IsPassedOver NullId s t = IsMissed s t
 IsPassedOver (NumberId number) s t = t ≡ s
 IsPassedOver (TextId text) s t = t ≡ s
 
--- .. and it is answered by a refusal
+-- .. and it is answered by an error
 abbrev pub IsRefused : IdVal → Code → Server → Outgoing → Server → Outgoing → Type 0
 IsRefused id code s old t now = IsPassedOver id s t × IsAnswered old now id (body (refusal id code))
 
@@ -71,13 +71,13 @@ Step s NotJson old ended t now = (ended ≡ None) × IsRefused NullId codes_of.P
 
 -- ---- what fails to allocate
 
--- an allocation fails for a message: what is to be answered is refused; of a notification nothing is sent, and what was still
--- to be done is still to be done
+-- an allocation fails for a message: a request is answered by an error; for a notification nothing is sent, and what
+-- was still to be done is still to be done
 abbrev pub IsUntakenBy : Option IdVal → Server → Outgoing → Server → Outgoing → Type 0
 IsUntakenBy None s old t now = StaysBut s t × KeepsDue s t × (now ≡ old)
 IsUntakenBy (Some id) s old t now = IsRefused id codes_of.InternalError s old t now
 
--- .. or it is missed, where not even its id was found, since there was no room for its bytes
+-- .. or it is missed: not even its id was found, since an allocation failed for its bytes
 abbrev pub IsUntaken : Server → MessageVal → Outgoing → Server → Outgoing → Type 0
 IsUntaken s message old t now =
     IsUntakenBy (answered_id message) s old t now
@@ -85,13 +85,13 @@ IsUntaken s message old t now =
 
 -- ---- what the editor has
 
--- what becomes by a message of the texts that the editor has open: once the exchange has begun, a note may change them
+-- what a message does to the texts that the editor has open: once the exchange has begun, a note may change them
 abbrev pub EditsIn : Phase → Server → Noted → Option Json → Texts → Texts → Type 0
 EditsIn New s noted params old now = (n : List ℕ) → now n ≡ old n
 EditsIn Running s noted params old now = Edits s.workspace.encoding noted params old now
 EditsIn ShutDown s noted params old now = (n : List ℕ) → now n ≡ old n
 
--- .. by what is not taken: without an id it may have made them whatever texts
+-- .. what a message does that is not taken: without an id it may have changed them in any way
 abbrev pub EditsPassedOver : IdVal → Texts → Texts → Type 0
 EditsPassedOver NullId old now = ⊤
 EditsPassedOver (NumberId number) old now = (n : List ℕ) → now n ≡ old n
@@ -104,7 +104,7 @@ EditsBy s Response old now = (n : List ℕ) → now n ≡ old n
 EditsBy s (Invalid id) old now = EditsPassedOver id old now
 EditsBy s NotJson old now = EditsPassedOver NullId old now
 
--- each text that is known to be open is that of the editor; and before the exchange none is
+-- each text that is known to be open is the editor's; and before the exchange none is
 pub record Follows (texts : Texts) (s : Server) : Type 0 where
   pub in_step : IsInStep texts s
   pub unopened : s.phase ≡ New → (n : List ℕ) → state_of s.editor n ≡ Open → ⊥

@@ -11,7 +11,7 @@ following [] text = Some text
 following (f ∷ fs) [] = None
 following (f ∷ fs) (b ∷ bs) = if nat_eq f b then following fs bs else None
 
--- what comes after a part where it is first in a text
+-- what comes after a part, where that is first in a text
 abbrev pub after_first : List ℕ → List ℕ → Option (List ℕ)
 after_first part [] = following part []
 after_first part (b ∷ bs) = option_or (following part (b ∷ bs)) (after_first part bs)
@@ -28,7 +28,7 @@ name_below folder file = option_and_then name_in (following folder file)
 abbrev pub is_inside : List ℕ → List ℕ → Bool
 is_inside folder file = option_map_or is_rooted (following folder file) false
 
--- by the first of the folders in which its file is
+-- the name by the first of the folders that its file is in
 abbrev pub template_name : List (List ℕ) → List ℕ → Option (List ℕ)
 template_name [] file = None
 template_name (f ∷ fs) file = option_or (name_below f file) (template_name fs file)
@@ -40,26 +40,26 @@ is_named folders name file = option_map_or (λ n. bytes_eq n name) (template_nam
 abbrev pub is_below : List ℕ → List ℕ → Bool
 is_below name file = ends_with nat_eq file (47 ∷ name)
 
--- the one with the shorter path; of two as long the first
+-- the one with the shorter path; if both are as long, the first
 abbrev pub nearer : Option (List ℕ) → Option (List ℕ) → Option (List ℕ)
 nearer None g = g
 nearer (Some f) None = Some f
 nearer (Some f) (Some g) = if nat_lt (length g) (length f) then Some g else Some f
 
--- of files in the order of their paths the one with the shortest path, and of several such the first
+-- the first of the files with the shortest path, in the order of their paths
 abbrev pub nearest : List (List ℕ) → Option (List ℕ)
 nearest [] = None
 nearest (f ∷ fs) = nearer (Some f) (nearest fs)
 
--- the template of a name: the nearest of the files that have it, or else of those whose path ends in it
+-- the template of a name: the file with the shortest path that has it, or else that ends in it
 abbrev pub template_in : List (List ℕ) → List (List ℕ) → List ℕ → Option (List ℕ)
 template_in folders files name =
     option_or (nearest (filter (is_named folders name) files)) (nearest (filter (is_below name) files))
 
--- ---- what is so of it
+-- ---- what holds of it
 
--- a file that is there, and has the name; or none that is there has it, and the path of this one ends in it. No other of which
--- this is so has a shorter path
+-- a file that exists and has the name; or none has it, and the path of this one ends in it. No other such file has a
+-- shorter path
 pub record IsTemplateOf (folders files : List (List ℕ)) (name file : List ℕ) : Type 0 where
   pub there : Contains files file
   pub named : (template_name folders file ≡ Some name)

@@ -8,12 +8,12 @@ use Rattle.tera_check.specs.declared.finding.Severity.TheVariants.{Error, Warnin
 use Rattle.tera_server.specs.declared.unread.Reason.{Reason}
 use Rattle.tera_server.specs.declared.unread.UnreadFiles.{UnreadFiles}
 
--- how grave something is, as the protocol has it
+-- the number of a severity in the protocol
 abbrev pub severity_number : Severity → ℕ
 severity_number Error = 1
 severity_number Warning = 2
 
--- the line that is wrong, where the file was read; how grave that is; and what is said of it
+-- the line that is wrong, if the file was read; the severity; and the message
 pub record ReasonVal : Type 0 where
   pub line : Option ℕ
   pub severity : ℕ
@@ -32,6 +32,6 @@ is_same a b = option_eq nat_eq a.line b.line && (nat_eq a.severity b.severity &&
 abbrev pub why_of : UnreadFiles → List ℕ → Option ReasonVal
 why_of u n = option_map reason_view (get_by_text u.why n)
 
--- of the file of this name this is why, or it can be read, and of the others what it was
+-- this is the reason for the file of this name, or there is none; and nothing else changes
 abbrev pub IsWhyAt : List ℕ → Option ReasonVal → UnreadFiles → UnreadFiles → Type 0
 IsWhyAt name why old now = (n : List ℕ) → why_of now n ≡ cond (bytes_eq name n) why (why_of old n)

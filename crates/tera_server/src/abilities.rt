@@ -16,7 +16,7 @@ pub const VERSION: &str = "0.1.0";
 pub(crate) fn put_abilities(out: &mut Writer, encoding: Encoding) -> Result<(), AllocError>
     ensures { PutsJson result out.old out.new (abilities_json encoding) }
 {
-    // Texts are reported when they are opened and closed, and their changes by parts.
+    // The client reports texts that are opened and closed, and changes as parts of them.
     put_tokens(
         out,
         &[
@@ -54,7 +54,7 @@ const AFTER_THE_CHANGES: [Token<'static>; 84] = [
     Token::String("quickfix"),
     Token::EndArray,
     Token::EndObject,
-    // An editor asks by itself after these characters, beside those of words.
+    // An editor asks by itself after these characters, in addition to those of words.
     Token::Key("completionProvider"),
     Token::BeginObject,
     Token::Key("triggerCharacters"),
@@ -76,7 +76,7 @@ const AFTER_THE_CHANGES: [Token<'static>; 84] = [
     Token::String("="),
     Token::EndArray,
     Token::EndObject,
-    // What the numbers of kinds mean; tokens are reported for a whole text.
+    // What the numbers of kinds mean; tokens are sent for a whole text.
     Token::Key("semanticTokensProvider"),
     Token::BeginObject,
     Token::Key("legend"),
@@ -132,7 +132,7 @@ pub(crate) fn put_registrations(out: &mut Writer) -> Result<(), AllocError>
     put_tokens(out, &REGISTRATIONS)
 }
 
-// Of whatever file: settings say how the names of templates end, and it may be a folder.
+// For all files: settings say how the names of templates end, and a folder may change too.
 const REGISTRATIONS: [Token<'static>; 21] = [
     Token::BeginObject,
     Token::Key("registrations"),

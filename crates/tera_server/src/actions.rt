@@ -1,4 +1,4 @@
-//! What may be done about what is found in a part of a document.
+//! The actions for what is found in a part of a document.
 
 ghost use Rattle.std.specs.Prelude.{◌≡◌, ◌++◌, List, map, string_bytes, IfOk, OnOk};
 ghost use Rattle.std.specs.List.{filter, flat_map, list_any};
@@ -27,7 +27,7 @@ use tera_fixes::{Part, Suggestion, suggestions_in};
 use tera_workspace::{FileText, Judgement, Workspace};
 use text_edits::{Encoding, Lines, Position, position_at};
 
-/// By what actions are offered.
+/// What the offered actions depend on.
 #[derive(Clone, Copy)]
 pub(crate) struct Acting<'s> {
     pub(crate) workspace: &'s Workspace,
@@ -114,7 +114,7 @@ pub(crate) fn put_if_wanted(
     }
 }
 
-// For each finding on the lines of the range the correction that is suggested.
+// Writes the suggested correction of each finding on the lines of the range.
 fn put_actions(
     alloc: Global,
     out: &mut Writer,
@@ -294,7 +294,7 @@ fn put_action<'x>(
     )
 }
 
-// The edits that put the text in the place of each of the parts.
+// Writes the edits that replace each of the parts by the text.
 fn put_parts(
     out: &mut Writer,
     edited: Edited<'_>,

@@ -1,4 +1,4 @@
-//! What a client says about itself.
+//! What a client reports about itself.
 
 ghost use Rattle.std.specs.Prelude.{◌≡◌};
 ghost use Rattle.protocol_values.specs.Members.{seen};
@@ -13,16 +13,16 @@ use text_edits::Encoding;
 pub(crate) struct Client {
     /// What positions are counted in.
     pub(crate) encoding: Encoding,
-    /// Whether it shows what explains a finding.
+    /// Whether it shows the notes of a finding.
     pub(crate) related: bool,
     /// Whether it can be asked to watch files.
     pub(crate) watches: bool,
-    /// Whether it takes the place of a parameter in a head, and not only its name.
+    /// Whether it accepts the place of a parameter in a head, and not only its name.
     pub(crate) labels: bool,
 }
 
 impl Client {
-    /// One of which nothing is known.
+    /// A client of which nothing is known.
     pub(crate) const UNKNOWN: Client = Client {
         encoding: Encoding::Utf16,
         related: false,
@@ -30,7 +30,7 @@ impl Client {
         labels: false,
     };
 
-    /// What the parameters of `initialize` say.
+    /// The client by the parameters of `initialize`.
     pub(crate) fn of(params: Option<&Value<'_>>) -> Client
         ensures { result ≡ client_in (seen params.entry) }
     {

@@ -30,14 +30,14 @@ use tera_outline::{
 use tera_workspace::Workspace;
 use text_edits::{Encoding, Lines, Position, byte_at, position_at};
 
-/// Where names are taken from.
+/// Where offered names come from.
 #[derive(Clone, Copy)]
 pub(crate) struct Offering<'w> {
     pub(crate) workspace: &'w Workspace,
     pub(crate) folders: &'w Vec<String>,
 }
 
-// What is offered is taken from this.
+// All that offered names come from.
 #[derive(Clone, Copy)]
 struct Given<'w> {
     offering: Offering<'w>,
@@ -47,7 +47,7 @@ struct Given<'w> {
     bound: &'w [&'w str],
 }
 
-// What a loop has.
+// The variables of a loop.
 const LOOP_NAMES: [&str; 5] = [
     "loop.first",
     "loop.index",
@@ -56,7 +56,7 @@ const LOOP_NAMES: [&str; 5] = [
     "loop.length",
 ];
 
-// Which part of the text a name replaces, and what it is.
+// The part of the text that a name replaces, and the kind of the name.
 #[derive(Clone, Copy)]
 struct Place {
     start: Position,
@@ -64,7 +64,8 @@ struct Place {
     kind: CompletionKind,
 }
 
-/// Writes what may be typed at the position, or `null`. The program registers these names for the document.
+/// Writes what may be typed at the position, or `null`. `registered` are the names that the program registers for the
+/// document.
 pub(crate) fn put_completion(
     alloc: Global,
     out: &mut Writer,
@@ -122,7 +123,7 @@ fn put_offered(
     put_items(out, place, &sorted)
 }
 
-// What may be typed of this kind.
+// The names of this kind that may be typed.
 fn offered<'w>(
     alloc: Global,
     given: Given<'w>,
@@ -147,7 +148,7 @@ fn offered<'w>(
     }
 }
 
-// What a loop has, the variables that are bound, and the functions of a list.
+// The variables of a loop, those that the text binds, and the functions of a list.
 fn operands<'w>(
     alloc: Global,
     bound: &[&'w str],
@@ -189,7 +190,7 @@ fn push_all<'w>(names: &mut Vec<&'w str>, list: &[&'w str]) -> Result<(), AllocE
     Ok(())
 }
 
-// The components that documents define, and those that are in the text where one is defined.
+// The components that documents define, and the names in the text that stand for a definition.
 fn components<'w>(
     alloc: Global,
     workspace: &'w Workspace,
@@ -225,7 +226,7 @@ fn arguments<'w>(
     Ok(Vec::new(alloc))
 }
 
-// The names of the templates that these files are.
+// The names of the templates in these files.
 fn templates<'w>(
     alloc: Global,
     folders: &Vec<String>,

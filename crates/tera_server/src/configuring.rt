@@ -1,4 +1,4 @@
-//! The settings of a folder, as they are given to a server.
+//! The settings of a folder, which are given to a server.
 
 ghost use Rattle.std.specs.Prelude.{◌≡◌, ◌++◌, false, true, map, string_bytes, IfOk, OnOk, OnErr};
 ghost use Rattle.std.specs.List.{filter, flat_map};
@@ -19,14 +19,14 @@ use crate::unread::Reason;
 use std::alloc::{AllocError, Global};
 use tera_workspace::Workspace;
 
-/// What is found of the settings that count for a folder.
+/// What was found of the settings for a folder.
 #[derive(Debug, Drop)]
 pub enum FoundSettings {
     /// There is no file of settings.
     Nothing,
-    /// The file of this path has these, and a reason if something in it has no effect in a server.
+    /// The file of this path has these settings, and a reason if something in it has no effect in a server.
     Set(String, FolderSettings, Option<Reason>),
-    /// The file of this path has none, for this reason. Those of the folder that were there stay.
+    /// The file of this path has no settings, for this reason. The folder keeps the settings that it has.
     Wrong(String, Reason),
 }
 
@@ -41,9 +41,9 @@ impl Server {
         self.settings.of(self.folders.as_slice(), path)
     }
 
-    /// This was found for the folder, and counts for the files in it from now on. If something else is reported of them
-    /// than before, by other rules or markers, it is published again; if something is listed that the program registers,
-    /// each of them is. After an allocation failure a part of that may be so.
+    /// Sets what was found for the folder. If other findings are reported in it by that, because of other rules or
+    /// markers, its documents are published again; if a list of registered names is or was there, all its documents
+    /// are. After an allocation failure a part of this may be done.
     pub fn configure(
         &mut self,
         alloc: Global,
@@ -65,7 +65,7 @@ impl Server {
         self.settings.is_in_library(path)
     }
 
-    /// The folders that are open are asked for again, as other settings may count for them.
+    /// Asks for the open folders again, as their settings may have changed.
     pub fn ask_for_folders(&mut self, alloc: Global) -> Result<(), AllocError>
         ensures same { self.new ≡ record self.old { needed = self.new.needed } }
         ensures asked { OnOk result (needed_of self.new ≡ needed_of self.old
@@ -80,7 +80,7 @@ impl Server {
         )
     }
 
-    // Whether by what was found the same is reported in the folder as before.
+    // Whether the same is reported in the folder as before, with what was found.
     fn keeps_report(&self, folder: &str, found: &FoundSettings) -> bool
         ensures { let old = settings_in self.now.settings folder.now in
             result ≡ true → reported_in (settings_by found.now old) ≡ reported_in old }
@@ -93,7 +93,7 @@ impl Server {
         }
     }
 
-    // Whether something is listed that the program registers, by what was found, or was before.
+    // Whether the settings that were found, or those before, list names that the program registers.
     fn is_listed(&self, folder: &str, found: &FoundSettings) -> bool
         ensures { result ≡ is_listed_by found.now (settings_in self.now.settings folder.now) }
     {
@@ -106,7 +106,7 @@ impl Server {
         }
     }
 
-    // Whether by what was found nothing is to be published again. `all` says that something is listed.
+    // Whether nothing has to be published again, with what was found. `all` says that registered names are listed.
     fn keeps_published(&self, folder: &str, found: &FoundSettings, all: bool) -> bool
         ensures { let old = settings_in self.now.settings folder.now in
             result ≡ true → (all ≡ false) × (reported_in (settings_by found.now old) ≡ reported_in old) }
@@ -117,8 +117,8 @@ impl Server {
         self.keeps_report(folder, found)
     }
 
-    // Where something else is reported than before, what was reported of the files in the folder is to be published; where
-    // something is listed, each of them is.
+    // If something else is reported than before, the files in the folder that have findings are to be published; if
+    // registered names are listed, all its files are.
     fn publish_if_others(
         &mut self,
         alloc: Global,
@@ -149,7 +149,7 @@ impl Server {
         Ok(())
     }
 
-    // Nothing is known to be wrong in the file of settings that counted for the folder, unless it counts for another one.
+    // Forgets what is wrong in the file of settings of the folder, unless it counts for another folder too.
     fn forget_file(&mut self, alloc: Global, folder: &str) -> Result<(), AllocError>
         ensures same { self.new ≡ record self.old { unread = self.new.unread; edited = self.new.edited } }
         ensures grows { Grows (edited_of self.old) (edited_of self.new) }
@@ -219,7 +219,7 @@ impl Server {
         self.settings.set_file(alloc, folder, file)
     }
 
-    // This is wrong in a file of settings, or has no effect, or nothing is. Where that is something else than before, it is
+    // Sets what is wrong in a file of settings, or has no effect; `None` if nothing is. If that changes, it is
     // published.
     fn report_why(
         &mut self,
@@ -235,7 +235,7 @@ impl Server {
     }
 }
 
-// The names of the documents in the folder of which anything was reported, or of all.
+// The names of the documents in the folder that have findings, or of all in it.
 fn due_inside(
     alloc: Global,
     workspace: &Workspace,

@@ -18,7 +18,7 @@ use tera_outline::{Name, NameKind, pieces_of, under};
 use tera_workspace::Definition;
 use text_edits::{Encoding, Lines, Position, byte_at};
 
-/// The name of a component or a template that is at the position, if one does.
+/// The name of a component or a template at the position, if there is one.
 pub(crate) fn name_at(
     alloc: Global,
     encoding: Encoding,
@@ -71,7 +71,7 @@ fn place_of(
     }
 }
 
-/// Whether what is so named is a component, and no template.
+/// Whether a name of this kind is the name of a component, and not of a template.
 pub(crate) fn is_component(kind: NameKind) -> bool
     ensures { result ≡ is_component kind }
 {
@@ -81,7 +81,7 @@ pub(crate) fn is_component(kind: NameKind) -> bool
     )
 }
 
-// The beginning of the file that has the name.
+// The beginning of the file with the name.
 fn template_place(
     alloc: Global,
     offering: Offering<'_>,

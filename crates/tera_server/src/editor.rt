@@ -1,4 +1,4 @@
-//! The documents that an editor has open, or had.
+//! The documents that an editor has or had open.
 
 ghost use Rattle.std.specs.Prelude.{◌≡◌, ℕ, List, Some, None, OnOk, OnErr, option_map};
 ghost use Rattle.tera_server.specs.Editors.{seen_view, seen_of, state_of, with_state, lost, seen_lost, IsSeenAt, AreSeenAlike};
@@ -11,12 +11,12 @@ use std::collections::BTreeMap;
 #[derive(Clone, Copy)]
 pub(crate) enum DocumentState {
     Open,
-    /// It has it open with another text than is known, since a change failed to allocate or was malformed.
+    /// It has it open, but its text is not known, since a change failed to allocate or was malformed.
     Lost,
     Closed,
 }
 
-/// A document as an editor reported about it.
+/// A document, by what the editor reported about it.
 #[derive(Drop)]
 pub(crate) struct Seen {
     /// Its URI as the editor writes it.
@@ -57,7 +57,8 @@ impl Editor {
         }
     }
 
-    /// The editor has it open from now on, with a text that is not known. After an allocation failure nothing changes.
+    /// The editor has the document open from now on, with a text that is not known. After an allocation failure nothing
+    /// changes.
     pub(crate) fn open(&mut self, alloc: Global, name: &str, uri: &str) -> Result<(), AllocError>
         ensures opened { OnOk result (IsSeenAt name.now
             (λ _. Some (record { uri = uri.now; version = None; state = Lost })) self.old self.new) }
@@ -72,7 +73,7 @@ impl Editor {
         Ok(())
     }
 
-    /// It has this version and is so from now on, where it is known.
+    /// The document has this version and this state from now on, if the editor reported about it.
     pub(crate) fn update(&mut self, name: &str, version: Option<u64>, state: DocumentState)
         ensures { IsSeenAt name.now (option_map (with_state version state)) self.old self.new }
     {
@@ -82,7 +83,7 @@ impl Editor {
         }
     }
 
-    /// The editor has another text of it than is known, where it has it open.
+    /// The text of the document is not known any more, if it is open.
     pub(crate) fn lose(&mut self, name: &str)
         ensures { IsSeenAt name.now (option_map lost) self.old self.new }
     {
@@ -91,7 +92,7 @@ impl Editor {
         }
     }
 
-    /// So it may be with each that is open.
+    /// The same for all documents.
     pub(crate) fn lose_all(&mut self)
         ensures { (n : List ℕ) → seen_of self.new n ≡ option_map lost (seen_of self.old n) }
     {

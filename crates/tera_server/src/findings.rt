@@ -1,4 +1,4 @@
-//! What is found in a document, as it is published.
+//! Publishing what is found in a document.
 
 ghost use Rattle.std.specs.Prelude.{◌≡◌, ◌++◌, ◌∷◌, [], ℕ, List, map, string_bytes, IfOk, OnOk, OnErr};
 ghost use Rattle.std.specs.List.{flat_map};
@@ -31,17 +31,17 @@ use text_edits::Position;
 #[derive(Clone, Copy)]
 pub(crate) struct Publishing<'e> {
     pub(crate) editor: &'e Editor,
-    /// What is reported for a file that cannot be read, before what is found in it.
+    /// Why files cannot be read; this comes before the findings of a file.
     pub(crate) unread: &'e UnreadFiles,
-    /// Whether what explains a finding is reported beside it.
+    /// Whether the notes of a finding are sent with it.
     pub(crate) related: bool,
-    /// What rules are set to and what the program registers, by the folders that are open.
+    /// What rules are set to, and what the program registers, by the folders that are open.
     pub(crate) settings: &'e Settings,
     pub(crate) folders: &'e [String],
 }
 
-/// Publishes what was reported last of the documents of these names, each once, but not of the others among them. Where
-/// the editor has one open with a text that is not known, nothing is published of it.
+/// Publishes what was reported last for the documents of these names, each once, except those among `others`. If the
+/// editor has one open with a text that is not known, it is not published.
 pub(crate) fn publish_each<'n>(
     alloc: Global,
     publishing: Publishing<'_>,
@@ -135,7 +135,7 @@ fn unknown_by(
     workspace.unknown_of(alloc, name, &registered)
 }
 
-// What was reported for the document, and what is unknown in it.
+// Writes what was reported for the document, and what is not registered in it.
 fn put_published(
     alloc: Global,
     out: &mut Writer,
@@ -169,7 +169,7 @@ fn put_published(
     put_tokens(out, &[Token::EndArray, Token::EndObject])
 }
 
-// Those of the findings that are reported.
+// Writes the findings that are on.
 fn put_found(
     alloc: Global,
     out: &mut Writer,
@@ -187,7 +187,7 @@ fn put_found(
     Ok(())
 }
 
-/// The URI of the document of this name: as the editor writes it, where it reported about it.
+/// The URI of the document of this name: as the editor writes it, if the editor reported about it.
 pub(crate) fn uri_by(alloc: Global, editor: &Editor, name: &str) -> Result<String, AllocError>
     ensures { IfOk result (λ uri. string_bytes uri ≡ uri_in name.now (seen_of editor.now name.now)) }
 {
@@ -210,7 +210,7 @@ fn put_version(out: &mut Writer, editor: &Editor, name: &str) -> Result<(), Allo
     Ok(())
 }
 
-// Why the file cannot be read, or what is wrong in it, if anything is.
+// Writes why the file cannot be read, or what is wrong in it, if anything is.
 fn put_reason(out: &mut Writer, why: Option<&Reason>) -> Result<(), AllocError>
     ensures { Puts result out.old out.new
         (reason_tokens (option_map (λ r. reason_view r.now) why.entry)) }
@@ -239,7 +239,7 @@ fn put_reason(out: &mut Writer, why: Option<&Reason>) -> Result<(), AllocError>
     )
 }
 
-// The code of what is published in a file that cannot be read, or of settings that are wrong.
+// The code of the diagnostic for a file that cannot be read, or for settings that are wrong.
 fn reason_code(why: &Reason) -> &'static str
     ensures { result.now ≡ reason_code (reason_view why.now) }
 {
@@ -249,7 +249,7 @@ fn reason_code(why: &Reason) -> &'static str
     }
 }
 
-// The finding, as grave as its rule counts for, if it is reported.
+// Writes the finding, with the severity that its rule has, if it is on.
 fn put_if_on(
     alloc: Global,
     out: &mut Writer,
@@ -267,7 +267,7 @@ fn put_if_on(
     }
 }
 
-// The finding, so grave.
+// Writes the finding with this severity.
 fn put_diagnostic(
     alloc: Global,
     out: &mut Writer,
@@ -297,7 +297,7 @@ fn put_diagnostic(
     out.end_object()
 }
 
-/// How the protocol has it.
+/// The number of the severity in the protocol.
 pub(crate) fn severity_number(severity: Severity) -> usize
     ensures { result ≡ severity_number severity }
 {
@@ -307,7 +307,7 @@ pub(crate) fn severity_number(severity: Severity) -> usize
     }
 }
 
-// What explains a finding, if that is reported.
+// Writes the notes of a finding, if they are sent.
 fn put_related(
     alloc: Global,
     out: &mut Writer,

@@ -1,4 +1,4 @@
-//! What is reported for a component that is named in a text.
+//! What is shown for the name of a component in a text.
 
 ghost use Rattle.std.specs.Prelude.{◌≡◌, ◌++◌, ℕ, List, Option, Some, IfOk, OnOk};
 ghost use Rattle.std.specs.Option.{option_map};
@@ -13,7 +13,7 @@ use std::alloc::{AllocError, Global};
 use tera_outline::{Name, head_of};
 use tera_workspace::Workspace;
 
-/// Writes the head of the definition of the component that the name stands for, or `null`.
+/// Writes the head of the definition of the component that has the name, or `null`.
 pub(crate) fn put_hover(
     alloc: Global,
     out: &mut Writer,

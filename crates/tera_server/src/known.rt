@@ -1,4 +1,4 @@
-//! Files that are there.
+//! Files that exist on disk.
 
 ghost use Rattle.std.specs.Prelude.{◌≡◌, ℕ, List, true, false, filter, map, string_bytes, IfOk, OnOk, OnErr};
 ghost use Rattle.tera_server.specs.KnownFiles.{is_known, known_names, IsKnownAs};
@@ -29,7 +29,7 @@ impl KnownFiles {
         self.names.contains(name)
     }
 
-    /// The file of this name is there. After an allocation failure nothing changes.
+    /// Adds the file of this name. After an allocation failure nothing changes.
     pub(crate) fn add(&mut self, alloc: Global, name: &str) -> Result<(), AllocError>
         ensures added { OnOk result (IsKnownAs name.now true self.old self.new) }
         ensures err { OnErr result ((n : List ℕ) → is_known self.new n ≡ is_known self.old n) }
@@ -38,14 +38,14 @@ impl KnownFiles {
         Ok(())
     }
 
-    /// It is gone.
+    /// Removes it.
     pub(crate) fn remove(&mut self, name: &str)
         ensures { IsKnownAs name.now false self.old self.new }
     {
         self.names.remove(name);
     }
 
-    /// The names of all.
+    /// The names of all files.
     pub(crate) fn all(&self, alloc: Global) -> Result<Vec<String>, AllocError>
         ensures { IfOk result (λ v. map string_bytes v.items ≡ known_names self.now) }
     {
@@ -56,7 +56,7 @@ impl KnownFiles {
         Ok(names)
     }
 
-    /// The names of those in the folder, at any depth.
+    /// The names of the files in the folder, at any depth.
     pub(crate) fn inside(&self, alloc: Global, folder: &str) -> Result<Vec<String>, AllocError>
         ensures { IfOk result (λ v. map string_bytes v.items ≡ filter (is_inside folder.now) (known_names self.now)) }
     {

@@ -1,5 +1,5 @@
-//! What the outline and the coloured tokens of a text are, as they are reported, what names lead to, what is offered
-//! and what refers to a name: each function has the law as its promise, and nothing but what it cites in its body.
+//! Laws of outlines, of coloured tokens, of what names lead to, of what is offered and of what refers to a name. Each
+//! function has the law as its promise, and nothing in its body except what it cites.
 
 ghost use Rattle.std.specs.Prelude.{◌≡◌, ◌⊎◌, ℕ, List, [], length, map, slice_index_or, All, IsUtf8, Option, None, Some};
 ghost use Rattle.std.specs.List.{Contains, find};
@@ -32,19 +32,19 @@ ghost use Rattle.tera_server.specs.Templates.{template_in, template_name, IsTemp
 
 use tera_outline::laws::{symbols_in_text, symbols_nest};
 
-/// Each symbol is reported once, before those in it and after it.
+/// Each symbol is sent once, before those in it and those after it.
 pub fn all_symbols()
     ensures { (symbols : List Outlined) → in_order (nested symbols) ≡ symbols }
 {}
 
-/// A finding counts for what it does in `tera check` by the same settings, where no option says anything else.
+/// A finding has the severity that it has in `tera check` with the same settings, if no option says anything else.
 pub fn levels_are_those_of_check()
     ensures { (levels : Levels) (kind : Kind) → levels.select ≡ None → levels.ignore ≡ None →
         level_by (ByRules (map level_view levels.set.now)) kind ≡ level_of levels kind }
 {}
 
-/// What is reported in a symbol begins after its start and ends no later than it, and what is reported after it begins
-/// no earlier than its end.
+/// What is sent inside a symbol begins after its start and ends no later than it, and what is sent after it begins no
+/// earlier than its end.
 pub fn symbols_within()
     ensures { (text : List ℕ) (parts : List Part) → ArePartsOf text parts →
         AreWithin (nested (outline_of (length text) parts)) }
@@ -52,8 +52,8 @@ pub fn symbols_within()
     symbols_nest();
 }
 
-/// The range of a name is within that of its symbol, in whatever encoding: a client refuses all of an outline in which
-/// one does not.
+/// The range of a name is within the range of its symbol, in any encoding. If one is not, a client rejects the whole
+/// outline.
 pub fn names_within()
     ensures { (e : Encoding) (text : List ℕ) (parts : List Part) → ArePartsOf text parts →
         All (IsSelectable e text) (outline_of (length text) parts) }
@@ -61,14 +61,14 @@ pub fn names_within()
     symbols_in_text();
 }
 
-/// At the number of a kind the legend has its name.
+/// The legend has the name of a kind at its number.
 pub fn kinds_have_names()
     ensures { (kind : SemanticKind) →
         slice_index_or (map kind_name all_kinds) (kind_number kind) [] ≡ kind_name kind }
 {}
 
-/// The numbers of the tokens are read back as their positions, in whatever encoding. They are one after the other, and
-/// each ends where it does in the text, on the line on which it begins: a client may refuse one that does not.
+/// The numbers of the tokens can be read back as their positions, in any encoding. The tokens follow one another, and
+/// each ends where it does in the text, on the line on which it begins: a client may reject one that does not.
 pub fn semantic_tokens_read_back()
     ensures read { (e : Encoding) (text : List ℕ) (parts : List Part) → ArePartsOf text parts →
         read_from first (data_of e text (semantic_tokens_of text parts))
@@ -81,14 +81,14 @@ pub fn semantic_tokens_read_back()
         (semantic_tokens_of text parts) }
 {}
 
-/// The file to which the name of a template leads is there, and has that name; only where no file has the name, it is
-/// one whose path ends in it. No other file of the name has a shorter path.
+/// The file to which the name of a template leads exists, and has that name; only if no file has the name, it is one
+/// whose path ends in it. No other file of the name has a shorter path.
 pub fn templates_have_their_names()
     ensures { (folders files : List (List ℕ)) (name file : List ℕ) →
         template_in folders files name ≡ Some file → IsTemplateOf folders files name file }
 {}
 
-/// The name of each file that is there leads to a file of that name.
+/// The name of each file that exists leads to a file of that name.
 pub fn names_of_templates_lead()
     ensures { (folders files : List (List ℕ)) (name file : List ℕ) → Contains files file →
         template_name folders file ≡ Some name → (f : List ℕ)
@@ -104,7 +104,7 @@ pub fn offered_components_are_defined()
         ((d : DefinitionVal) × (definition_of_name w n ≡ Some d)) ⊎ Contains (defined_names named) n }
 {}
 
-/// The name of a template that is offered leads to a file that is there and has that name.
+/// The name of a template that is offered leads to a file that exists and has that name.
 pub fn offered_templates_lead()
     ensures { (w : Workspace) (folders : List (List ℕ)) (r : RegisteredVal) (named : List Named)
         (bound : List (List ℕ)) (n : List ℕ) →
@@ -120,13 +120,13 @@ pub fn offered_parameters_are_defined()
         × (find (holds call) named ≡ Some m) × IsParameterIn (templates_of w.judged.items) m.text n }
 {}
 
-/// The head that is reported for a name is that of a definition in the text of the file to which the name leads.
+/// The head that is shown for a name is the head of a definition in the text of the file to which the name leads.
 pub fn heads_are_of_definitions()
     ensures { (w : Workspace) (folders : List (List ℕ)) (named : Option Named) (head : List ℕ) →
         IsHead w named (Some head) → IsOfDefinition w folders named head }
 {}
 
-/// Each place that is listed is one of a name that is looked for, and each such name in a text is listed.
+/// Each place that is listed has a name that is looked for, and each such name in a text is listed.
 pub fn references_refer()
     ensures each { (k : LookedFor) (sources : List Source) (reported : List Json) → AreReferences k sources reported →
         (j : Json) → Contains reported j → (s : Source) × Contains sources s × IsReferenceIn k s j }

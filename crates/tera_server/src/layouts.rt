@@ -19,7 +19,7 @@ use tera_layout::format;
 use tera_outline::{Edit, edits_of};
 use text_edits::{Encoding, Lines, position_at};
 
-/// Writes the edits that make the text its layout, or `null` where it has none, or is not a template.
+/// Writes the edits that make the text its layout, or `null` if it has none, or is not a template.
 pub(crate) fn put_layout(
     alloc: Global,
     out: &mut Writer,
@@ -36,7 +36,7 @@ pub(crate) fn put_layout(
     }
 }
 
-// The layout, if the text has one. What is not a template stays as it is, as under `tera format`.
+// The layout, if the text has one. A text that is not a template has none, as under `tera format`.
 fn layout_of(alloc: Global, text: &str) -> Result<Option<String>, AllocError>
     ensures { IfOk result (λ o. IsLaidOut text.now (option_map string_bytes o)) }
 {

@@ -42,7 +42,7 @@ pub(crate) enum Noted {
     Other,
 }
 
-/// What a notification reports a document.
+/// What a notification says about a document.
 #[derive(Clone, Copy)]
 pub(crate) enum DocumentNote {
     Opened,
@@ -50,7 +50,8 @@ pub(crate) enum DocumentNote {
     Closed,
 }
 
-/// What is asked of the files on disk: the texts below a folder, that of a file, or what is under a path.
+/// What is asked of the files on disk: the texts below a folder, the text of a file, or what is under a path that
+/// changed.
 #[derive(Clone, Copy)]
 pub(crate) enum NeededKind {
     Folder,
@@ -77,7 +78,7 @@ impl Noted {
 }
 
 impl Server {
-    /// Takes what a notification says, once the exchange has begun.
+    /// Takes a notification, if the exchange has begun and not ended.
     pub(crate) fn note(
         &mut self,
         alloc: Global,
@@ -115,8 +116,8 @@ impl Server {
         }
     }
 
-    // Takes what a notification reports a document. Where it has no name, or not even that finds memory, the text of
-    // whatever document may be another.
+    // Takes what a notification says about a document. If it has no name, or an allocation fails for the name, the text
+    // of any document may have changed.
     fn note_document(
         &mut self,
         alloc: Global,
@@ -147,7 +148,7 @@ impl Server {
         }
     }
 
-    // The text of the document is lost until all is done: after an allocation failure it stays so.
+    // The text of the document counts as lost until all is done: after an allocation failure it stays lost.
     fn open(
         &mut self,
         alloc: Global,
@@ -173,7 +174,7 @@ impl Server {
         Ok(())
     }
 
-    // The text stays lost also where the changes do not lead to that of the editor.
+    // The text also stays lost if the changes do not lead to the editor's text.
     fn change(
         &mut self,
         alloc: Global,
@@ -207,8 +208,8 @@ impl Server {
         Ok(())
     }
 
-    // The text is lost until all is done. Then what is on disk counts again, and is asked for. What is found in it is published,
-    // since it may not have been while the text was lost.
+    // The text is lost until all is done. Then the text on disk counts again, and is asked for. Its findings are
+    // published, since they may not have been while the text was lost.
     fn close(&mut self, alloc: Global, name: &str) -> Result<(), AllocError>
         ensures stays { StaysBut self.old self.new }
         ensures due { KeepsDue self.old self.new }
@@ -224,7 +225,7 @@ impl Server {
     }
 }
 
-// Whether the text of a document is that of the editor after these changes.
+// Whether a document has the editor's text after these changes.
 fn takes(state: DocumentState, changes: &[Change<'_>]) -> bool
     ensures { result ≡ takes state (map change_view changes.now) }
 {
@@ -235,7 +236,7 @@ fn takes(state: DocumentState, changes: &[Change<'_>]) -> bool
     }
 }
 
-// Whether one of the changes says the whole text.
+// Whether one of the changes has the whole text.
 fn is_any_whole(changes: &[Change<'_>]) -> bool
     ensures { result ≡ list_any is_whole (map change_view changes.now) }
 {
@@ -247,7 +248,7 @@ fn is_any_whole(changes: &[Change<'_>]) -> bool
     false
 }
 
-/// Adds the name, where it is not one of these.
+/// Adds the name, if it is not one of these.
 pub(crate) fn add_name(alloc: Global, name: &str, names: &mut Vec<String>) -> Result<(), AllocError>
     ensures added { OnOk result (map string_bytes names.new.items
         ≡ with_name name.now (map string_bytes names.old.items)) }
@@ -307,7 +308,8 @@ fn files_changed(
     need_all(alloc, NeededKind::Changed, names.as_slice(), needed)
 }
 
-// Folders are open from now on, and others are not. Both are asked for. After an allocation failure those are open that were.
+// Takes the folders that were opened and closed. Both are asked for. After an allocation failure the open folders are
+// what they were.
 fn folders_changed(
     alloc: Global,
     params: Option<&Value<'_>>,
@@ -331,7 +333,7 @@ fn folders_changed(
     Ok(())
 }
 
-// The names of the items of a list; of what is none there are none.
+// The names of the items of a list; empty, if there is no list.
 fn names_among(alloc: Global, items: Option<&Value<'_>>) -> Result<Vec<String>, AllocError>
     ensures { IfOk result (λ v. AreNames (map item_uri (items_in (seen items.entry))) (map string_bytes v.items)) }
 {
@@ -398,7 +400,7 @@ pub(crate) fn need_all(
     Ok(())
 }
 
-// Asks for what has this name, where that is a path: the name of what has another scheme is none.
+// Asks for what has this name, if that is a path. If a URI has another scheme, its name is not a path.
 fn need(
     alloc: Global,
     kind: NeededKind,

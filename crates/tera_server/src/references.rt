@@ -66,7 +66,7 @@ fn put_in(
     put_names(out, search, *text, &lines, uri.as_str(), names.as_slice())
 }
 
-// Of the names in a text those that count.
+// Writes the names in a text that count.
 #[tactic(auto, unfolding(crate::specs::References::reference_tokens))]
 fn put_names(
     out: &mut Writer,
@@ -92,7 +92,7 @@ fn put_names(
     Ok(())
 }
 
-// Whether the name stands for what is looked for, and counts.
+// Whether the name stands for what is looked for, and counts as a place.
 fn refers(search: Search<'_>, name: &Name) -> bool
     ensures { result ≡ refers (looked_for_by search.entry) (name_view name.now) }
 {

@@ -48,7 +48,7 @@ pub(crate) enum Asked {
     Other,
 }
 
-/// What a request asks of the text of a document.
+/// What a request asks about the text of a document.
 #[derive(Clone, Copy)]
 pub(crate) enum TextRequest {
     Formatting,
@@ -56,7 +56,7 @@ pub(crate) enum TextRequest {
     SemanticTokens,
 }
 
-/// What a request asks of a position in a document.
+/// What a request asks about a position in a document.
 #[derive(Clone, Copy)]
 pub(crate) enum PlaceRequest {
     OfName(NameRequest),
@@ -64,7 +64,7 @@ pub(crate) enum PlaceRequest {
     Signature,
 }
 
-/// What a request asks of the name at a position.
+/// What a request asks about the name at a position.
 #[derive(Clone, Copy)]
 pub(crate) enum NameRequest {
     Definition,
@@ -142,7 +142,7 @@ impl Server {
         Ok(answer)
     }
 
-    // Once it has begun. It ends when the answer to `shutdown` is there.
+    // The answer once the exchange has begun. The exchange ends when the answer to `shutdown` was made.
     fn result_within(
         &mut self,
         alloc: Global,
@@ -162,8 +162,8 @@ impl Server {
         Ok(answer)
     }
 
-    // Writes the result of a request, or says why there is none. Where it says so, part of a result may be written, and
-    // is to be dropped.
+    // Writes the result of a request, or returns why there is none. Then a part of a result may be written, which is to
+    // be dropped.
     fn put_result(
         &mut self,
         alloc: Global,
@@ -190,7 +190,7 @@ impl Server {
         }
     }
 
-    // Writes what is asked of the text that the parameters name, or `null` where it is not read between its markers.
+    // Writes what is asked about the document in the parameters, or `null` if its templates have other markers.
     fn put_result_of_document(
         &self,
         alloc: Global,
@@ -227,7 +227,7 @@ impl Server {
         put_result_of_text(alloc, out, request, self.client.encoding, text)
     }
 
-    // Whether the document is not read between its markers.
+    // Whether the settings say that the document has other markers.
     fn has_other_markers(&self, name: &str) -> bool
         ensures { result ≡ has_other_markers self.now name.now }
     {
@@ -237,7 +237,7 @@ impl Server {
         }
     }
 
-    // Writes what is asked of the position that the parameters say, by the documents as they were read.
+    // Writes what is asked about the position in the parameters, by the documents as they were read.
     fn put_result_at(
         &self,
         alloc: Global,
@@ -278,7 +278,7 @@ impl Server {
         }
     }
 
-    // Writes what may be done within the range that the parameters say, by the documents as they were read.
+    // Writes the actions for the range in the parameters, by the documents as they were read.
     fn put_actions_within(
         &self,
         alloc: Global,
@@ -304,7 +304,7 @@ impl Server {
         Ok(put_if_wanted(alloc, out, wanted, self.acting(), document, range)?)
     }
 
-    // By what actions are offered.
+    // What the offered actions depend on.
     fn acting(&self) -> Acting<'_>
         ensures { acting_view result ≡ acting_of self.now }
     {

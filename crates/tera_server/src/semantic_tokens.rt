@@ -18,7 +18,7 @@ use std::alloc::{AllocError, Global};
 use tera_outline::{SemanticKind, SemanticToken, semantic_tokens_of};
 use text_edits::{Encoding, Position, Walk};
 
-/// Writes the tokens of the text, with a fault or without one, each by its distance from the one before.
+/// Writes the tokens of the text, with a fault or without one. Each is at a distance from the one before.
 pub(crate) fn put_semantic_tokens(
     alloc: Global,
     out: &mut Writer,
@@ -59,7 +59,7 @@ fn put_data(
     Ok(())
 }
 
-// A token by its position.
+// A token with its position.
 #[derive(Clone, Copy)]
 struct Placed {
     start: Position,
@@ -103,7 +103,7 @@ fn put_placed(out: &mut Writer, last: Position, placed: Placed) -> Result<(), Al
     )
 }
 
-// How many units are before the position on its line, after the other if that is on the line.
+// How many units are before the position on its line, or between the two if `last` is on the line too.
 fn distance(last: Position, position: Position) -> usize
     requires { IsUpTo last position }
     ensures { result ≡ specs.distance last position }
@@ -125,7 +125,7 @@ pub(crate) fn put_numbers(out: &mut Writer, numbers: &[usize]) -> Result<(), All
     Ok(())
 }
 
-// Its place in the legend, which is among the tokens of `abilities`.
+// Its number in the legend, which is among the tokens of `abilities`.
 fn kind_number(kind: SemanticKind) -> usize
     ensures { result ≡ specs.kind_number kind }
 {

@@ -58,7 +58,7 @@ pub enum Needed {
     Folder(String),
     /// The text of this file, if there is one.
     File(String),
-    /// What is under this path: the text of a file, those of the templates below a folder, or nothing any more.
+    /// What is under this path: the text of a file, the texts of the templates below a folder, or nothing any more.
     Changed(String),
 }
 
@@ -84,13 +84,14 @@ pub struct Server {
     // The files that were given, and those of them that cannot be read.
     known: KnownFiles,
     pub(crate) unread: UnreadFiles,
-    // Those that count for the folders.
+    // The settings of the folders.
     pub(crate) settings: Settings,
     pub(crate) needed: Vec<Needed>,
-    // The names of the documents whose findings are to be published, whatever they are: the editor opened, changed or closed
-    // them, their files cannot be read or can again, or they were not published in time.
+    // The names of the documents whose findings are to be published, even if they are the same as before: the editor
+    // opened, changed or closed the document, its file cannot be read or can be read again, or it was not published in
+    // time.
     pub(crate) edited: Vec<String>,
-    // The names of those whose findings are others than were published, or may be by other settings.
+    // The names of the documents whose findings differ from the published ones, or may differ with other settings.
     pub(crate) unpublished: Vec<String>,
 }
 
@@ -120,9 +121,9 @@ impl Server {
         }
     }
 
-    /// Takes a message and adds what is sent at once. The answer is how the exchange ends, if it does by this message.
-    /// The error says that an allocation failed for it: a request has its answer all the same, and what a notification
-    /// reports a document is lost.
+    /// Takes a message and adds what is sent at once. The result is how the exchange ends, if it ends with this
+    /// message. The error says that an allocation failed: a request has its answer all the same, and what a
+    /// notification says about a document is lost.
     pub fn handle(
         &mut self,
         alloc: Global,
@@ -147,7 +148,8 @@ impl Server {
         Err(AllocError)
     }
 
-    // There was no memory to read a message: what is to be answered is refused, and what is not may have been a change.
+    // An allocation failed while a message was read: a request gets an error as its answer, and anything else may have
+    // been a change.
     fn refuse_unread<'a>(
         &mut self,
         alloc: Global,
@@ -168,7 +170,7 @@ impl Server {
     }
 
     /// A message could not be read: it was too long, or an allocation failed for its bytes. It may have been a change
-    /// of whatever document, or a request, whose id is not known.
+    /// of any document, or a request, whose id is not known.
     pub fn miss(&mut self, alloc: Global, out: &mut Outbox)
         requires { IsTrue out.old.reserved }
         ensures missed { IsMissed self.old self.new }
@@ -177,7 +179,7 @@ impl Server {
         self.refuse_under(alloc, &Id::null(), Code::InternalError, out);
     }
 
-    /// What came is not a message: its header cannot be read. It may have been a change of whatever document.
+    /// What came is not a message: its header cannot be read. It may have been a change of any document.
     pub fn refuse(&mut self, alloc: Global, out: &mut Outbox)
         requires { IsTrue out.old.reserved }
         ensures { IsRefused NullId ParseError self.old out.old self.new out.new }
@@ -185,7 +187,7 @@ impl Server {
         self.refuse_under(alloc, &Id::null(), Code::ParseError, out);
     }
 
-    // Refuses what is not taken. What has an id is not a notification; what has none may have been a change of whatever
+    // Answers with an error. A message with an id is not a notification; one without may have been a change of any
     // document.
     fn refuse_under(&mut self, alloc: Global, id: &Id<'_>, code: Code, out: &mut Outbox)
         requires { IsTrue out.old.reserved }
@@ -253,7 +255,7 @@ impl Server {
         self.folders.as_slice()
     }
 
-    /// What is asked of the files on disk next.
+    /// What to read from disk next.
     pub fn take_needed(&mut self) -> Option<Needed>
         ensures needed { needed_of self.old ≡ needed_of self.new ++ option_to_list (option_map needed_view result) }
         ensures none { result ≡ None → needed_of self.old ≡ [] }
@@ -263,7 +265,7 @@ impl Server {
         self.needed.pop()
     }
 
-    /// What was taken is asked for again, as an allocation failed for it.
+    /// Asks again for what was taken, as an allocation failed for it.
     pub fn ask_again(&mut self, needed: Needed) -> Result<(), AllocError>
         ensures needed { OnOk result (needed_of self.new ≡ needed_of self.old ++ needed_view needed ∷ []) }
         ensures err { OnErr result (needed_of self.new ≡ needed_of self.old) }
@@ -273,7 +275,7 @@ impl Server {
         Ok(())
     }
 
-    /// This is on disk under the path now. After an allocation failure the texts are what they were.
+    /// Takes what is on disk under the path now. After an allocation failure the texts are what they were.
     pub fn load(&mut self, alloc: Global, path: &str, found: OnDisk) -> Result<(), AllocError>
         ensures stays { KeepsReported self.old self.new }
         ensures same { self.new ≡ record self.old {
@@ -326,7 +328,7 @@ impl Server {
         self.known.inside(alloc, folder)
     }
 
-    // No text is on disk, where this is why the file cannot be read, or nothing is.
+    // Takes that no text is on disk; `why` says why the file cannot be read, if there is one.
     fn unload(&mut self, alloc: Global, path: &str, why: Option<Reason>) -> Result<(), AllocError>
         ensures stays { KeepsReported self.old self.new }
         ensures same { self.new ≡ record self.old
@@ -338,8 +340,8 @@ impl Server {
         self.workspace.remove_file(alloc, path)
     }
 
-    // This is why a file that is given cannot be read, or nothing is. It is published as in `set_why`, and also where
-    // something is listed that the program registers, as something else may be unknown in it.
+    // Sets why a file cannot be read; `None` if it can be. It is published as in `set_why`, and also if registered
+    // names are listed, as something else may be unknown in it.
     fn set_why_of(
         &mut self,
         alloc: Global,
@@ -361,15 +363,15 @@ impl Server {
         }
     }
 
-    // Whether something is listed that the program registers, by the settings that count for the file.
+    // Whether the settings for the file list names that the program registers.
     fn lists_for(&self, path: &str) -> bool
         ensures { result ≡ lists_for self.now path.now }
     {
         self.settings.lists_for(self.folders.as_slice(), path)
     }
 
-    // The same as `set_why`, but the file is published anyhow. Its name is not looked for among those that are due, which
-    // may be as many as there are files: each of them is published once.
+    // The same as `set_why`, but the file is always published. Its name is not looked for among those that are due,
+    // which may be as many as there are files: each of them is published once.
     fn set_why_anyhow(
         &mut self,
         alloc: Global,
@@ -387,7 +389,7 @@ impl Server {
         self.unread.set(alloc, path, why)
     }
 
-    // This is why the file cannot be read, or is wrong, or nothing is. Where that is something else than before, it is
+    // Sets why the file cannot be read, or what is wrong in it; `None` if nothing is. If that changes, the file is
     // published.
     pub(crate) fn set_why(
         &mut self,
@@ -410,8 +412,8 @@ impl Server {
         self.unread.set(alloc, path, why)
     }
 
-    /// Publishes what is found in the texts as they are, where it is something else than was published, or the version
-    /// is. After an allocation failure the rest is published the next time.
+    /// Publishes what is found in the current texts, if it differs from what was published, or if the version does.
+    /// After an allocation failure the rest is published the next time.
     pub fn settle(&mut self, alloc: Global, out: &mut Outbox) -> Result<(), AllocError>
         ensures settled { OnOk result (IsSettling self.old.phase self.old self.new out.old out.new) }
         ensures unsettled { OnErr result (ArePublishedInPart self.old self.new out.old out.new) }
@@ -420,7 +422,7 @@ impl Server {
         if self.phase != Phase::Running {
             return Ok(());
         }
-        // What is not published yet is published by what is reported now.
+        // What was not published yet is published with what is reported now.
         self.edited.append(&mut self.unpublished)?;
         self.unpublished = self.workspace.settle(alloc)?;
         let folders = self.folders.as_slice();
@@ -431,7 +433,7 @@ impl Server {
             settings: &self.settings,
             folders,
         };
-        // Of those that are not published yet it is published after.
+        // The documents in `unpublished` are published after these.
         let unpublished = self.unpublished.as_slice();
         publish_each(
             alloc,

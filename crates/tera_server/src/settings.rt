@@ -20,10 +20,10 @@ pub struct FolderSettings {
     pub exclude: Vec<String>,
     /// Files and folders with components that may be called, by the paths by which the system knows them.
     pub libraries: Vec<String>,
-    /// Whether templates in the folder are read between other markers than the usual ones. The server reads no others, so
-    /// nothing is reported of these.
+    /// Whether templates in the folder have other markers than the usual ones. The server reads no others, so nothing
+    /// is reported of these.
     pub other_markers: bool,
-    /// What rules are set to. All others count for what [`Kind::default_level`] says.
+    /// What rules are set to. All others have the level [`Kind::default_level`].
     pub rules: Vec<RuleSetting>,
     /// The names of the filters that the program registers, if they are known.
     pub filters: Option<Vec<String>>,
@@ -44,7 +44,7 @@ impl FolderSettings {
         Reported::By(self.rules.as_slice())
     }
 
-    /// Whether they list anything that the program registers.
+    /// Whether they list names that the program registers.
     pub(crate) fn has_list(&self) -> bool
         ensures { result ≡ specs.has_list (settings_view self.now) }
     {
@@ -65,7 +65,7 @@ impl FolderSettings {
     }
 }
 
-/// What a rule is set to. With no level its findings are off.
+/// What a rule is set to. Without a level its findings are off.
 #[derive(Debug, Drop, PartialEq, Eq)]
 pub struct RuleSetting {
     pub rule: String,
@@ -83,11 +83,11 @@ pub(crate) struct RegisteredNames<'s> {
 /// What is reported of a file.
 #[derive(Clone, Copy)]
 pub(crate) enum Reported<'s> {
-    /// What counts for anything, where these rules are set.
+    /// All findings that are on, if these rules are set.
     By(&'s [RuleSetting]),
-    /// No more than faults, as it is one of a library.
+    /// Only faults, as the file is in a library.
     Faults,
-    /// Nothing, as it is not read between its markers.
+    /// Nothing, as the file has other markers.
     Nothing,
 }
 
@@ -95,7 +95,7 @@ pub(crate) enum Reported<'s> {
 #[derive(Drop)]
 pub(crate) struct Settings {
     of_folders: BTreeMap<String, FolderSettings>,
-    // The files of settings that count for them, also where they are wrong.
+    // The files of settings that count for the folders, even if they are wrong.
     files: BTreeMap<String, String>,
 }
 
@@ -110,7 +110,7 @@ impl Settings {
         }
     }
 
-    /// Those that count for a file or a folder: those of the first of these folders that it is, or is in.
+    /// The settings for a file or a folder: those of the first of these folders that it is, or is in.
     pub(crate) fn of(&self, folders: &[String], path: &str) -> Option<&FolderSettings>
         ensures { option_map (λ s. settings_view s.now) result
             ≡ specs.settings_for self.now (map string_bytes folders.now) path.now }
@@ -139,7 +139,7 @@ impl Settings {
         }
     }
 
-    /// What is reported of a file: in a folder by its settings, and of another one in a library no more than faults.
+    /// What is reported of a file: if it is in a folder, by the folder's settings; else, in a library, only faults.
     pub(crate) fn reported(&self, folders: &[String], file: &str) -> Reported<'_>
         ensures { reported_view result ≡ specs.reported_for self.now (map string_bytes folders.now) file.now }
     {
@@ -150,7 +150,7 @@ impl Settings {
         }
     }
 
-    /// Whether the file is one of a library.
+    /// Whether the file is in a library.
     pub(crate) fn is_in_library(&self, file: &str) -> bool
         ensures { result ≡ specs.is_in_library self.now file.now }
     {
@@ -162,7 +162,7 @@ impl Settings {
         false
     }
 
-    /// Those that count for a file, if they list anything that the program registers.
+    /// The settings for a file, if they list names that the program registers.
     pub(crate) fn listing(&self, folders: &[String], file: &str) -> Option<&FolderSettings>
         ensures { option_map (λ s. settings_view s.now) result
             ≡ specs.listing_for self.now (map string_bytes folders.now) file.now }
@@ -173,7 +173,7 @@ impl Settings {
         }
     }
 
-    /// Whether the settings that count for a file list anything that the program registers.
+    /// Whether the settings for a file list names that the program registers.
     pub(crate) fn lists_for(&self, folders: &[String], file: &str) -> bool
         ensures { result ≡ specs.has_list_if_any
             (specs.settings_for self.now (map string_bytes folders.now) file.now) }
@@ -184,7 +184,7 @@ impl Settings {
         }
     }
 
-    /// Whether those of a folder list anything that the program registers.
+    /// Whether the settings of a folder list names that the program registers.
     pub(crate) fn lists_in(&self, folder: &str) -> bool
         ensures { result ≡ specs.has_list_if_any (settings_in self.now folder.now) }
     {
@@ -204,7 +204,7 @@ impl Settings {
         }
     }
 
-    /// The file of settings that counts for the folder, if it counts for no other folder.
+    /// The file of settings of the folder, if it counts for no other folder.
     pub(crate) fn own_file(&self, folder: &str) -> Option<&str>
         ensures { IfSome result (λ f. file_in self.now folder.now ≡ Some f.now) }
     {
@@ -295,7 +295,7 @@ fn names_in(list: &Option<Vec<String>>) -> &[String]
     }
 }
 
-/// The first of the folders that is at the path, or has it in it at any depth.
+/// The first of the folders that is the path, or contains it at any depth.
 fn folder_of<'f>(folders: &'f [String], path: &str) -> Option<&'f str>
     ensures { option_map (λ f. f.now) result ≡ specs.folder_of (map string_bytes folders.now) path.now }
 {
@@ -314,7 +314,8 @@ fn holds(folder: &str, path: &str) -> bool
 }
 
 impl Reported<'_> {
-    /// What findings of the kind count for, unless they are off. Faults are as grave as they are, whatever is set.
+    /// The severity of findings of the kind, or none if they are off. Faults are always errors, if anything is
+    /// reported.
     pub(crate) fn level(self, kind: Kind) -> Option<Severity>
         ensures { result ≡ specs.level_by (reported_view self.entry) kind }
     {
@@ -362,7 +363,7 @@ impl Reported<'_> {
         }
     }
 
-    /// Whether it is what counts for anything, where these rules are set.
+    /// Whether it is [`Reported::By`] with these rules.
     pub(crate) fn is_by(self, rules: &[RuleSetting]) -> bool
         ensures { result ≡ true → ByRules (map rule_view rules.now) ≡ reported_view self.entry }
     {
@@ -374,7 +375,7 @@ impl Reported<'_> {
     }
 }
 
-// What findings of the kind count for where these rules are set.
+// The level of findings of the kind, if these rules are set.
 fn level_in(rules: &[RuleSetting], kind: Kind) -> Option<Severity>
     ensures { result ≡ specs.level_in (map rule_view rules.now) kind }
 {

@@ -24,7 +24,7 @@ use tera_outline::{
 use tera_workspace::Workspace;
 use text_edits::{Lines, Position, byte_at};
 
-/// Writes the head of the component in whose call the position is, with its parameters if the argument there is for one
+/// Writes the head of the component whose call the position is in, with its parameters if the argument there is for one
 /// of them; or `null`.
 pub(crate) fn put_signature(
     alloc: Global,
@@ -74,7 +74,7 @@ fn put_called(
     }
 }
 
-// What the component of the name takes, or `null` if no document defines it.
+// Writes what the component of the name takes, or `null` if no document defines it.
 fn put_named(
     alloc: Global,
     out: &mut Writer,
@@ -111,7 +111,7 @@ fn signature_by<'w>(
     }
 }
 
-// The text of the name in which the byte is.
+// The name that contains the byte.
 fn name_holding(names: &[Name], byte: usize) -> Option<&str>
     ensures { option_map (λ n. n.now) result
         ≡ option_map (λ n. n.text) (find (holds byte) (map name_view names.now)) }
@@ -124,7 +124,7 @@ fn name_holding(names: &[Name], byte: usize) -> Option<&str>
     None
 }
 
-// The head, and its parameters if the argument is for one of them.
+// Writes the head, and its parameters if the argument is for one of them.
 fn put_one(
     out: &mut Writer,
     labels: bool,
@@ -140,7 +140,7 @@ fn put_one(
     }
 }
 
-// The head with its parameters, of which the one of this number is active.
+// Writes the head with its parameters; the one of this number is active.
 fn put_marked(
     out: &mut Writer,
     labels: bool,
@@ -170,7 +170,7 @@ fn put_marked(
     out.end_object()
 }
 
-// The head alone, of which editors mark no part.
+// Writes only the head, in which editors mark nothing.
 fn put_plain(out: &mut Writer, head: &str) -> Result<(), AllocError>
     ensures { PutsJson result out.old out.new (plain_json head.now) }
 {
@@ -205,7 +205,7 @@ fn put_parameters(
     Ok(())
 }
 
-// The parameter by its place in the head, or by its name.
+// Writes the parameter by its place in the head, or by its name.
 fn put_parameter(out: &mut Writer, placed: bool, parameter: Parameter<'_>) -> Result<(), AllocError>
     ensures { Puts result out.old out.new (parameter_tokens placed (parameter_view parameter.entry)) }
 {

@@ -34,7 +34,7 @@ pub(crate) fn put_outline(
     put_nested(alloc, out, encoding, text, &lines, symbols.as_slice())
 }
 
-// Writes them and ends the array in which they are.
+// Writes the symbols, and ends their array.
 fn put_nested(
     alloc: Global,
     out: &mut Writer,
@@ -47,7 +47,7 @@ fn put_nested(
     ensures { Puts result out.old out.new
         (items_tokens (symbol_items encoding text.now (nested (map outlined symbols.now)))) }
 {
-    // The ends of those that are begun, the innermost last.
+    // The ends of the symbols that are open, the innermost last.
     let mut open = Vec::new(alloc);
     for symbol in symbols {
         end_before(out, &mut open, symbol.start)?;
@@ -58,10 +58,10 @@ fn put_nested(
     out.end_array()
 }
 
-// The end of a symbol, after those that are in it.
+// The end of a symbol, after those inside it.
 const SYMBOL_END: [Token<'static>; 2] = [Token::EndArray, Token::EndObject];
 
-// Ends those that end at or before the byte.
+// Ends the symbols that end at or before the byte.
 fn end_before(out: &mut Writer, open: &mut Vec<usize>, byte: usize) -> Result<(), AllocError>
     ensures puts { Puts result out.old out.new (end_tokens byte (reverse open.old.items)) }
     ensures open { OnOk result (reverse open.new.items ≡ open_at byte (reverse open.old.items)) }
@@ -141,7 +141,7 @@ fn kind_name(kind: SymbolKind) -> &'static str
     }
 }
 
-// A namespace, or a function.
+// The number for a namespace, or for a function.
 fn kind_number(kind: SymbolKind) -> usize
     ensures { result ≡ kind_number kind }
 {

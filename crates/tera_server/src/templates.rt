@@ -8,7 +8,7 @@ ghost use Rattle.tera_server.specs.Templates as specs;
 
 use std::alloc::{AllocError, Global};
 
-/// The name of the template that a file is: by the first of the folders in which the file is.
+/// The name of the template in a file, by the first of the folders that the file is in.
 pub(crate) fn template_name<'f>(folders: &[String], file: &'f str) -> Option<&'f str>
     ensures { option_map (λ n. n.now) result ≡ specs.template_name (map string_bytes folders.now) file.now }
 {
@@ -20,7 +20,8 @@ pub(crate) fn template_name<'f>(folders: &[String], file: &'f str) -> Option<&'f
     None
 }
 
-// By the folder, if its file is there: what comes after the first folder `templates` below it, or else after it.
+// The name by the folder, if the file is in it: what comes after the first folder `templates` below it, or else its
+// whole path below the folder.
 fn name_below<'f>(folder: &str, file: &'f str) -> Option<&'f str>
     ensures { option_map (λ n. n.now) result ≡ specs.name_below folder.now file.now }
 {
@@ -42,8 +43,8 @@ pub(crate) fn is_inside(folder: &str, file: &str) -> bool
     }
 }
 
-/// The file of the template of this name: of these the one with the shortest path that has the name; or else that whose
-/// path ends in it, below whatever folder.
+/// The file of the template of this name: the one with the shortest path among those that have the name; or else among
+/// those whose path ends in it, below any folder.
 pub(crate) fn template_in<'f>(
     alloc: Global,
     folders: &[String],
@@ -61,7 +62,7 @@ pub(crate) fn template_in<'f>(
     Ok(nearest_below(files, ending.as_str()))
 }
 
-// The nearest of the files that have the name.
+// The file with the shortest path among those that have the name.
 fn nearest_named<'f>(folders: &[String], files: &[&'f str], name: &str) -> Option<&'f str>
     ensures { option_map (λ f. f.now) result ≡ specs.nearest (filter
         (specs.is_named (map string_bytes folders.now) name.now) (texts files.now)) }
@@ -75,7 +76,7 @@ fn nearest_named<'f>(folders: &[String], files: &[&'f str], name: &str) -> Optio
     best
 }
 
-// The nearest of the files whose path ends so.
+// The file with the shortest path among those whose path ends so.
 fn nearest_below<'f>(files: &[&'f str], ending: &str) -> Option<&'f str>
     ensures { option_map (λ f. f.now) result ≡ specs.nearest (filter
         (λ f. ends_with nat_eq f ending.now) (texts files.now)) }
@@ -99,7 +100,7 @@ fn is_named(folders: &[String], name: &str, file: &str) -> bool
     }
 }
 
-// The one with the shorter path; of two as long the first.
+// The one with the shorter path; if both are as long, the first.
 fn nearer<'f>(best: Option<&'f str>, file: &'f str) -> &'f str
     ensures { Some result.now ≡ specs.nearer (option_map (λ f. f.now) best.entry) (Some file.now) }
 {

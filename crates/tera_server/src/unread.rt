@@ -15,13 +15,13 @@ use tera_check::Severity;
 pub struct Reason {
     /// The line of the file that is wrong, from 0, if the file was read.
     pub line: Option<usize>,
-    /// How grave it is.
+    /// Its severity.
     pub severity: Severity,
     pub message: String,
 }
 
 impl Reason {
-    /// That the file cannot be read.
+    /// The reason of a file that cannot be read.
     pub(crate) fn unread(why: String) -> Reason
         ensures { reason_view result ≡ specs.unread (string_bytes why) }
     {
@@ -63,7 +63,7 @@ impl UnreadFiles {
         self.why.get(name)
     }
 
-    /// Whether this is why it cannot be read, or nothing is.
+    /// Whether this is the reason that is known for it, or none is.
     pub(crate) fn is(&self, name: &str, why: &Option<Reason>) -> bool
         ensures { result ≡ option_eq is_same (why_of self.now name.now) (option_map reason_view why.now) }
     {
@@ -76,7 +76,7 @@ impl UnreadFiles {
         }
     }
 
-    /// This is why it cannot be read from now on, or nothing is. After an allocation failure nothing changes.
+    /// Sets why it cannot be read; `None` removes the reason. After an allocation failure nothing changes.
     pub(crate) fn set(
         &mut self,
         alloc: Global,
