@@ -1,4 +1,4 @@
--- What is done with a file that is laid out, in each mode.
+-- What is done with a file that is formatted, in each mode.
 use Rattle.std.specs.Prelude.{ℕ, List, Bool, true, false, Option, None, Some, string_bytes}
 use Rattle.tera_program.specs.declared.job.Mode.{Mode}
 use Rattle.tera_program.specs.declared.job.Mode.TheVariants.{Write, Check, Diff}
@@ -7,7 +7,7 @@ use Rattle.tera_program.specs.declared.plan.Action.TheVariants as actions
 use Rattle.tera_program.specs.declared.plan.Plan.{Plan}
 use Rattle.tera_program.specs.declared.plan.Plan.TheVariants.{Same, Layout}
 
--- what goes to standard output, or in the place of the file's text
+-- what goes to standard output, or replaces the file's text
 pub data ActionVal : Type 0 where
   Nothing : ActionVal
   Shows : List ℕ → ActionVal
@@ -22,24 +22,24 @@ action_view actions.Name = Names
 action_view (actions.Difference text) = Differs text.now
 action_view (actions.Replace text) = Replaces text.now
 
--- the text that is to be written in the place of the file's
+-- the text that is to replace the file's
 abbrev pub plan_text : Plan → Option (List ℕ)
 plan_text Same = None
 plan_text (Layout text) = Some (string_bytes text)
 
--- of a file whose layout is another text
+-- for a file whose layout is another text
 abbrev pub of_file : Mode → List ℕ → ActionVal
 of_file Write text = Replaces text
 of_file Check text = Names
 of_file Diff text = Differs text
 
--- of standard input, whose layout is this text
+-- for standard input, whose layout is this text
 abbrev pub of_input : Mode → List ℕ → ActionVal
 of_input Write text = Shows text
 of_input Check text = Names
 of_input Diff text = Differs text
 
--- Standard input that is laid out is shown; a file that is laid out is left alone.
+-- If the layout is the same text, standard input is shown, and a file is left alone.
 abbrev pub of_same : Mode → Bool → List ℕ → ActionVal
 of_same Write true source = Shows source
 of_same _ _ source = Nothing

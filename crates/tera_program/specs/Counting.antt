@@ -1,4 +1,4 @@
--- The last line, which counts.
+-- The summary line.
 use Rattle.std.specs.Prelude.{ℕ, List, [], ◌++◌, Bool, ◌==◌, if◌then◌else◌, codes, decimal}
 use Rattle.terminal_text.specs.Counted.{counted}
 use Rattle.tera_program.specs.declared.counting.Checked.{Checked}
@@ -7,7 +7,7 @@ use Rattle.tera_program.specs.declared.counting.Listed.{Listed}
 use Rattle.tera_program.specs.declared.job.Mode.{Mode}
 use Rattle.tera_program.specs.declared.job.Mode.TheVariants.{Write, Check, Diff}
 
--- how many there are, and how many there are unless there is none
+-- a number with a text; and the same unless the number is 0
 abbrev pub with_number : ℕ → List ℕ → List ℕ
 with_number number what = codes ", " ++ (decimal number ++ (codes " " ++ what))
 
@@ -23,7 +23,7 @@ abbrev pub checked_line : Checked → List ℕ
 checked_line c =
     counted c.files (codes "file") ++ (codes " checked, " ++ (findings_text c.findings c.faulty ++ with_count c.unread (codes "could not be read")))
 
--- how much was put right, and whether another run may put more right
+-- how much was corrected, and whether another run may correct more
 abbrev pub again_text : Bool → List ℕ
 again_text more = if more then codes ", run again to fix more\n" else codes "\n"
 

@@ -20,7 +20,7 @@ are_names names others = pointwise bytes_eq names others
 abbrev pub has_names : BTreeSet Names → List (List ℕ) → Bool
 has_names paths names = list_any (λ (path : Names). are_names names (names_of path)) paths.keys
 
--- .. where one of these has them, which are texts
+-- .. if one of these paths has them, which are texts
 abbrev pub AreOfPaths : List (List ℕ) → BTreeSet Names → Type 0
 AreOfPaths texts paths =
     (names : List (List ℕ)) → has_names paths names ≡ list_any (λ text. are_names names (path_components text)) texts

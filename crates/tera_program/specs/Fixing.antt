@@ -1,4 +1,4 @@
--- Another text for the file of a template.
+-- Corrected texts for the files of templates.
 use Rattle.std.specs.Prelude.{◌≡◌, ◌&&◌, ℕ, List, Bool, true, false, filter, map, not, Option, String, is_some, string_bytes}
 use Rattle.std.specs.BTreeMap.{BTreeMap}
 use Rattle.std.specs.List.{flat_map}
@@ -42,15 +42,15 @@ abbrev pub IsEdited : List ℕ → List (Option SuggestionVal) → List ℕ → 
 IsEdited source suggestions text =
     ThereIs (λ edits. AreAscending edits × IsPermutation (flat_map edits_if_any suggestions) (map edit_view edits) × (text ≡ edited source 0 (map edit_view edits)))
 
--- .. with what is suggested for these findings of the template
+-- .. with the suggestions for these findings of the template
 pub record IsCorrected (catalogue : BTreeMap (String Global) Known) (t : Template) (source : List ℕ) (findings : List Finding) (text : List ℕ) : Type 0 where
   pub suggestions : List (Option SuggestionVal)
   pub suggested : AreSuggestedIn catalogue t source findings suggestions
   pub edits : IsEdited source suggestions text
 
--- The text is the source with what is suggested for these findings. It is read as a template that has a tree, and has
--- fewer findings than were found before. Each of them has the message of one of those. It is known whether something may
--- be suggested for more of these findings than it is.
+-- The text is the source with the suggestions for these findings. It is read as a template that has a tree, and has
+-- fewer findings than were found before. Each of them has the message of one of those. It is known whether more of
+-- these findings may have a suggestion than get one.
 pub record IsReadFix (catalogue : BTreeMap (String Global) Known) (open_text : Bool) (marks : Marks) (faults number : ℕ) (t : Template) (source : Source) (findings found : List Finding) (fix : Fix) : Type 0 where
   pub numbered : fix.number ≡ number
   pub corrected : IsCorrected catalogue t (string_bytes source.text) findings (string_bytes fix.text)
@@ -58,7 +58,7 @@ pub record IsReadFix (catalogue : BTreeMap (String Global) Known) (open_text : B
   pub fewer : HasFewer (known_in catalogue) open_text number fix.template found fix.fewer
   pub more : fix.more ≡ are_too_many findings
 
--- .. for those of the findings of the template that are reported and taken. The source is that of its file.
+-- .. for the findings of the template that are reported and taken. The source is the source of its file.
 pub record IsFixOf (catalogue : BTreeMap (String Global) Known) (open_text : Bool) (marks : Marks) (faults : ℕ) (rules : Levels) (number : ℕ) (t : Template) (source : Source) (fix : Fix) : Type 0 where
   pub of_file : string_bytes t.file ≡ string_bytes source.file
   pub found : List Finding

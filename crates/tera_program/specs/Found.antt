@@ -1,4 +1,4 @@
--- What counts of what is found in templates.
+-- How many findings there are in templates, and whether there is an error.
 use Rattle.std.specs.Prelude.{ℕ, ◌^◌, ◌-◌, min, List, Bool, true, false, nat_lt, length}
 use Rattle.std.specs.List.{count_by, list_any, sum_by}
 use Rattle.tera_check.specs.declared.finding.Finding.{Finding}
@@ -20,7 +20,7 @@ is_of_error finding = is_error finding.severity
 abbrev pub is_wrong : Found → Bool
 is_wrong found = list_any is_of_error found.findings.items
 
--- how many findings there are, and in how many files, as far as a number goes
+-- how many findings there are, and in how many files, or the greatest `usize` if there are more
 abbrev pub count_in : List Found → ℕ
 count_in all = min (sum_by (λ found. length found.findings.items) all) (2 ^ 64 - 1)
 

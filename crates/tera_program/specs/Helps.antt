@@ -1,4 +1,4 @@
--- What is suggested for what is found, where a form has it.
+-- Suggestions for findings, if the form has them.
 use Rattle.std.specs.Prelude.{◌≡◌, ℕ, List, [], Option, None, Some, String, Vec, length, map, slice_get, string_bytes}
 use Rattle.std.specs.declared.alloc.Global.{Global}
 use Rattle.std.specs.BTreeMap.{BTreeMap}
@@ -15,11 +15,11 @@ use Rattle.tera_fixes.specs.declared.suggestions.Suggestion.{Suggestion}
 use Rattle.tera_program.specs.declared.job.Form.{Form}
 use Rattle.tera_program.specs.declared.job.Form.TheVariants as forms
 
--- what is suggested for each of some findings
+-- the suggestions for some findings
 abbrev pub Help : Type 0
 Help = Vec (Option Suggestion) Global
 
--- its title, of the finding of a number in the template of a number
+-- the title of a suggestion; and of the one for the finding of a number in the template of a number
 abbrev pub title_in : Option Suggestion → Option (List ℕ)
 title_in = option_map (λ s. string_bytes s.title)
 
@@ -27,7 +27,7 @@ abbrev pub help_in : List Help → ℕ → ℕ → Option (List ℕ)
 help_in helps number at =
     option_and_then (λ (help : Help). option_and_then title_in (slice_get help.items at)) (slice_get helps number)
 
--- what is suggested for the findings in a template with its source, by the components that there are
+-- the suggestions for the findings in a template with its source, by these components
 abbrev pub IsHelpOf : BTreeMap (String Global) Known → Option Template → Option Source → Found → Help → Type 0
 IsHelpOf catalogue (Some t) (Some s) found help =
     AreSuggestedIn catalogue t (string_bytes s.text) found.findings.items (map (option_map suggestion_view) help.items)
@@ -41,7 +41,7 @@ pub record AreHelpsIn (templates : List Template) (sources : List Source) (all :
   pub are : (i : ℕ) (found : Found) (help : Help) → slice_get all i ≡ Some found → slice_get helps i ≡ Some help
       → IsHelpOf catalogue (slice_get templates i) (slice_get sources i) found help
 
--- .. where the form has it
+-- .. if the form has them
 abbrev pub AreHelps : Form → List Template → List Source → List Found → List Help → Type 0
 AreHelps forms.Full templates sources all helps = AreHelpsIn templates sources all helps
 AreHelps _ templates sources all helps = helps ≡ []

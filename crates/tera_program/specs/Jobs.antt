@@ -1,4 +1,4 @@
--- What the words of the command line ask.
+-- What the words of the command line ask for.
 use Rattle.std.specs.Prelude.{◌&&◌, ◌∷◌, [], ℕ, List, Bool, false, not, Option, None, Some, map, option_map, unwrap_or, if◌then◌else◌, bytes_eq, codes}
 use denote.Ref.{Bor}
 use Rattle.std.specs.List.{list_any}
@@ -23,7 +23,7 @@ use Rattle.tera_program.specs.declared.job.Mode.{Mode}
 use Rattle.tera_program.specs.declared.job.Mode.TheVariants as modes
 use Rattle.tera_program.specs.declared.job.Tree.{Tree}
 
--- ---- what is seen of a job
+-- ---- what a job represents
 
 -- some texts, if they are given
 abbrev pub lists_view : Option (Bor (List (Bor (List ℕ)))) → Option (List (List ℕ))
@@ -100,7 +100,7 @@ job_view jobs.Server = Serves
 abbrev pub text_view : Option (Bor (List ℕ)) → Option (List ℕ)
 text_view = option_map (λ t. t.now)
 
--- options count before settings; by an option nothing is left out or set
+-- options count before settings; no option leaves out a file or sets a rule
 abbrev pub common_with : Defaults → CommonVal → CommonVal
 common_with d c = record {
   extensions = option_or c.extensions (lists_view d.extensions);
@@ -115,7 +115,7 @@ common_with d c = record {
 abbrev pub rules_with : Defaults → RulesVal → RulesVal
 rules_with d r = record { select = r.select; ignore = r.ignore; set = sets_view d.set }
 
--- A job with settings: what no option says is as they say.
+-- A job with settings, which count for all that no option sets.
 abbrev pub with_defaults : Defaults → JobVal → JobVal
 with_defaults d (Checks form library root faults rules strict fix markers files common) =
     Checks form (option_or library (lists_view d.library)) (option_or root (text_view d.root)) faults (rules_with d rules) strict fix (option_or markers (text_view d.markers)) files (common_with d common)
@@ -125,7 +125,7 @@ with_defaults d (LaysOut mode markers files common) = LaysOut mode (option_or ma
 with_defaults d (Explains rule) = Explains rule
 with_defaults d Serves = Serves
 
--- ---- whether standard input has a name for nothing
+-- ---- whether standard input has a name, and is not read
 
 -- it has another name than its own, and is not among the files
 abbrev pub is_unread : Common → List (Bor (List ℕ)) → Bool
@@ -143,7 +143,7 @@ names_unread_input (jobs.Format j) = are_unread j.common j.files
 names_unread_input (jobs.Explain rule) = false
 names_unread_input jobs.Server = false
 
--- ---- what is read of the rows of a subcommand
+-- ---- the rows of a subcommand
 
 -- whether there is a text, and it is this one
 abbrev pub is_text : List ℕ → Option (List ℕ) → Bool
@@ -167,7 +167,7 @@ form_of word =
     else (if is_text (codes "github") word then forms.Github
     else (if is_text (codes "sarif") word then forms.Sarif else forms.Full)))
 
--- where both are asked, the difference is shown
+-- if both are asked for, the difference is shown
 abbrev pub mode_of : List Row → Mode
 mode_of rows =
     if is_set (codes "diff") rows then modes.Diff else (if is_set (codes "check") rows then modes.Check else modes.Write)
@@ -183,7 +183,7 @@ common_of rows = record {
   no_config = is_set (codes "no-config") rows;
 }
 
--- nothing is set by the command line
+-- the command line sets no rule
 abbrev pub rules_of : List Row → RulesVal
 rules_of rows = record { select = all_of (codes "select") rows; ignore = all_of (codes "ignore") rows; set = [] }
 
@@ -203,7 +203,7 @@ components_of rows =
 abbrev pub format_of : List Row → JobVal
 format_of rows = LaysOut (mode_of rows) (first_of (codes "markers") rows) (all_of (codes "files") rows) (common_of rows)
 
--- what a subcommand with these rows asks
+-- what a subcommand with these rows asks for
 abbrev pub job_of : List ℕ × List Row → Option JobVal
 job_of (name, rows) =
     if bytes_eq name (codes "check") then Some (check_of rows)

@@ -1,4 +1,4 @@
--- Lines of errors, and texts as a terminal or another program gets them.
+-- Lines of errors, and texts for a terminal or another program.
 use Rattle.std.specs.Prelude.{ℕ, Bool, if◌then◌else◌, List, [], ◌∷◌, ◌++◌, codes}
 use Rattle.line_text.specs.Line.{on_one_line, on_lines}
 
@@ -13,6 +13,6 @@ name_for terminal name = if terminal then on_one_line name else name
 abbrev pub name_line : Bool → List ℕ → List ℕ
 name_line terminal name = name_for terminal name ++ 10 ∷ []
 
--- the same of a text of several lines
+-- the same for a text of several lines
 abbrev pub lines_for : Bool → List ℕ → List ℕ
 lines_for terminal text = if terminal then on_lines text else text

@@ -1,4 +1,4 @@
--- What is to be done with a file whose source is to be laid out.
+-- What to do with a file that is formatted.
 use Rattle.std.specs.Prelude.{◌≡◌, ◌≢◌, ℕ, List, Some, string_bytes}
 use Rattle.tera_lexer.specs.grammar.Marks.{Marks}
 use Rattle.tera_tree.specs.Tree.{Output}
@@ -18,8 +18,8 @@ abbrev pub AreOneTemplate : Marks → List ℕ → List ℕ → Type 0
 AreOneTemplate m one other = (x : Output) × (y : Output)
     × Derives usual m one x × Derives usual m other y × (placeless_output x ≡ placeless_output y)
 
--- Nothing is to be done where the source is its own layout; or else its layout is to be written, another text that is
--- the same template.
+-- Nothing is to be done if the source is its own layout; or else its layout is to be written, another text that is the
+-- same template.
 abbrev pub IsPlan : Marks → List ℕ → Plan → Type 0
 IsPlan m source Same = IsTemplate m source × (laid_out m source ≡ Some source)
 IsPlan m source (Layout text) = (laid_out m source ≡ Some (string_bytes text))

@@ -1,4 +1,4 @@
--- What `tera server` writes of what comes.
+-- What `tera server` writes, by what comes.
 use Rattle.std.specs.Prelude.{◌≡◌, ◌⊎◌, ⊤, ◌++◌, ℕ, Bool, true, false, List, [], ◌∷◌, All, Contains, filter, map, string_bytes, Option, None, Some, unwrap_or}
 use Rattle.std.specs.Io.KnownBytes.{Appends, Consumes, IsAtEnd}
 use Rattle.std.specs.List.{flat_map, list_any}
@@ -34,8 +34,8 @@ use Rattle.tera_server.specs.declared.server.Server.{Server}
 use Rattle.tera_workspace.specs.Workspaces.{reported_of_name, IsKept}
 use Rattle.text_edits.specs.Documents.{no_document}
 
--- nothing was sent to a server: it knows no document, says nothing, asks for nothing, has nothing to publish, and knows
--- of no file on disk
+-- nothing was sent to the server yet: it knows no document, sends nothing, asks for nothing, has nothing to publish,
+-- and knows of no file on disk
 pub record IsNew (s : Server) : Type 0 where
   pub phase : s.phase ≡ New
   pub known : (n : List ℕ) → known_of s n ≡ record { seen = None; texts = no_document }
@@ -44,8 +44,8 @@ pub record IsNew (s : Server) : Type 0 where
   pub none : (needed_of s ≡ []) × (edited_of s ≡ []) × (unpublished_of s ≡ []) × ((n : List ℕ) → why_of s.unread n ≡ None)
       × ((n : List ℕ) → is_known s.known n ≡ false)
 
--- what a message does, and what is to be sent then; what is too long is missed, and what is not a message is refused:
--- each may have been a change
+-- what a message does, and what is to be sent then; a message that is too long is missed, and bytes that are not a
+-- message are answered by an error: each may have been a change
 abbrev pub Takes : Server → Shown → Option Ended → Server → Outgoing → Type 0
 Takes s (Message message) ended t out =
     Step s (message_of message) nothing ended t out ⊎ ((ended ≡ None) × IsUntaken s (message_of message) nothing t out)
@@ -63,7 +63,7 @@ SettlesSo false s t out = ArePublishedInPart s t nothing out
 abbrev pub Settles : Server → Server → Outgoing → Type 0
 Settles s t out = (all : Bool) × SettlesSo all s t out
 
--- what a server asks for next is taken, or none where nothing is asked for; and nothing else changes
+-- what a server asks for next is taken, or nothing, if nothing is asked for; and nothing else changes
 pub record IsAsked (next : Option NeededVal) (s t : Server) : Type 0 where
   pub needed : needed_of s ≡ needed_of t ++ option_to_list next
   pub none : next ≡ None → needed_of s ≡ []
@@ -77,7 +77,7 @@ pub record IsLoaded (path : List ℕ) (s t : Server) : Type 0 where
   pub same : t ≡ record s { workspace = t.workspace; known = t.known; unread = t.unread; edited = t.edited }
   pub stays : KeepsReported s t
 
--- .. or an allocation failed for that, and the texts are what they were
+-- .. or an allocation failed for that, and the texts do not change
 pub record IsUnloaded (path : List ℕ) (s t : Server) : Type 0 where
   pub not_loaded : IsNotLoaded path s t
   pub same : t ≡ record s { workspace = t.workspace; known = t.known; unread = t.unread; edited = t.edited }
@@ -89,7 +89,7 @@ pub data AreLoaded (s : Server) : List (List ℕ) → Server → Type 0 where
   LoadedNext : (paths : List (List ℕ)) (path : List ℕ) (t u : Server) →
       AreLoaded s paths t → IsLoaded path t u → AreLoaded s (paths ++ path ∷ []) u
 
--- the ends of the names of templates: the usual ones, and those of a path by the settings that count for it
+-- the extensions of templates: the usual ones, and those of a path by the settings for it
 abbrev pub extensions : List (List ℕ)
 extensions = map (λ e. e.now) EXTENSIONS
 
@@ -104,7 +104,7 @@ extensions_in s path = extensions_by (settings_for s.settings (map string_bytes 
 abbrev pub AreKnownGiven : List ℕ → Server → Server → Type 0
 AreKnownGiven folder s t = AreLoaded s (filter (is_inside folder) (known_names s.known)) t
 
--- .. and those that the path of a folder means, except those that are left out
+-- .. and those that the path of a folder leads to, except those that are left out
 abbrev pub AreListed : List (List ℕ) → List (List ℕ) → List (List ℕ) → Type 0
 AreListed extensions paths files = (all : List (List ℕ)) × AreOfAll extensions paths all × All (Contains all) files
 
@@ -115,12 +115,13 @@ AreListedGiven folder s t = (files : List (List ℕ)) × AreListed (extensions_i
 abbrev pub is_open : List ℕ → Server → Bool
 is_open folder s = list_any (λ f. bytes_eq f folder) (map string_bytes s.folders.items)
 
--- what was known in a folder is given, and what is there: always if the folder is open, and else if it is in one that is
+-- the known files in a folder are given, and the files that are there: always if the folder is open, and else if it is
+-- in one that is
 abbrev pub IsFolderGiven : List ℕ → Server → Server → Type 0
 IsFolderGiven folder s t =
     (u : Server) × AreKnownGiven folder s u × (((is_open folder u ≡ false) × (t ≡ u)) ⊎ AreListedGiven folder u t)
 
--- the settings that count for a folder are given
+-- the settings for a folder are given
 abbrev pub IsConfigured : List ℕ → Server → Server → Type 0
 IsConfigured folder s t = (found : FoundSettings) × IsConfiguredBy folder found s t
 
@@ -140,24 +141,25 @@ abbrev pub AreLibrariesGiven : List ℕ → Server → Server → Type 0
 AreLibrariesGiven folder s t =
     (files : List (List ℕ)) × AreListed (extensions_in s folder) (libraries_in s folder) files × AreLoaded s files t
 
--- .. then what is in a folder, those that were known and are in no folder and no library any more, and its libraries
+-- .. then what is in a folder, the files that were known and are in no folder and no library any more, and its
+-- libraries
 abbrev pub IsOpenGiven : List ℕ → Server → Server → Type 0
 IsOpenGiven folder s t =
     (u v w : Server) × IsConfigured folder s u × IsFolderGiven folder u v × AreSomeGiven v w × AreLibrariesGiven folder w t
 
--- a file that was not known may be no template, and is passed over then
+-- a file that was not known may not be a template, and is passed over then
 abbrev pub IsPassedBy : List ℕ → Server → Server → Type 0
 IsPassedBy path s t = (is_known s.known path ≡ false) × (t ≡ s)
 
--- what is asked for is given: the file of a path, or a folder with its settings; where it is not known what is under a path,
--- a file or a folder, or what was known below it; by a file of settings the folders are asked for
+-- what is asked for is given: the file of a path, or a folder with its settings; if it is not known what is under a
+-- path, a file or a folder, or the known files below it; for a file of settings the folders are asked for again
 abbrev pub AreGiven : NeededVal → Server → Server → Type 0
 AreGiven (NeedsFile path) s t = IsLoaded path s t
 AreGiven (NeedsFolder path) s t = IsOpenGiven path s t
 AreGiven (NeedsChanged path) s t =
     IsPassedBy path s t ⊎ (IsLoaded path s t ⊎ (AreKnownGiven path s t ⊎ (IsFolderGiven path s t ⊎ AreAsked s t)))
 
--- .. in part, if an allocation failed: the first ones of some files, and perhaps none of them
+-- .. in part, if an allocation failed: the first of some files, and perhaps none of them
 abbrev pub AreLoadedInPart : List (List ℕ) → Server → Server → Type 0
 AreLoadedInPart paths s t =
     (given rest : List (List ℕ)) × (given ++ rest ≡ paths) × (u : Server) × AreLoaded s given u
@@ -215,7 +217,7 @@ pub data Gives (s : Server) : Server → Type 0 where
       Gives s t → IsAsked (Some needed) t u → IsGivenInPart needed u v → Gives s v
   GaveAll : (t u : Server) → Gives s t → IsAsked None t u → Gives s u
 
--- from a server on: what came, what was sent, in order, how the exchange ended if it did, and the server then. After a
+-- from a server on: what came, what was sent, in order, how the exchange ended, if it did, and the server then. After a
 -- message that ends the exchange nothing comes
 pub data Talks (s : Server) : List Shown → List (List ℕ) → Option Ended → Server → Type 0 where
   Silent : Talks s [] [] None s
@@ -228,12 +230,12 @@ pub data Talks (s : Server) : List Shown → List (List ℕ) → Option Ended �
 
 -- ---- a piece of the input after another
 
--- nothing is left to be done: what was asked for was given, and once the exchange has begun what is found is published
+-- nothing is left to be done: what was asked for was given and, once the exchange has begun, findings were published
 pub record IsAtRest (t : Server) : Type 0 where
   pub given : needed_of t ≡ []
   pub published : t.phase ≡ Running → due_of t ≡ []
 
--- how messages left the exchange, and the server
+-- the state of the exchange after messages, and the server
 abbrev pub ended_of : Left → Option Ended
 ended_of (lefts.Ended finished) = Some finished
 ended_of lefts.AtRest = None
@@ -244,8 +246,8 @@ IsLeft (lefts.Ended finished) t = ⊤
 IsLeft lefts.AtRest t = IsAtRest t
 IsLeft lefts.Short t = ⊤
 
--- what comes of a piece: its messages are taken, and the one that earlier pieces began. After that nothing is left to be
--- done, unless memory was refused
+-- what happens with a piece of input: its messages are taken, with the one that earlier pieces began. After that
+-- nothing is left to be done, unless an allocation failed
 pub record Round (limit : ℕ) (left : Left) (s t : Server) (bytes rest : List ℕ) (sent : List (List ℕ)) : Type 0 where
   pub items : List Item
   pub begins : Begins bytes items rest
@@ -253,15 +255,15 @@ pub record Round (limit : ℕ) (left : Left) (s t : Server) (bytes rest : List �
   pub partial : ended_of left ≡ None → IsPartial rest
   pub done : IsLeft left t
 
--- whether memory was refused in this round or before
+-- whether an allocation failed in this round or before
 abbrev pub or_short : Bool → Left → Bool
 or_short short (lefts.Ended finished) = short
 or_short short lefts.AtRest = short
 or_short short lefts.Short = true
 
--- from a server on: whether memory was refused, how the exchange ended if it did, the bytes that came, those of them
--- that are not whole message, what was sent, and the server then. Each piece is read when nothing of those before is
--- left to be done, unless memory was refused
+-- from a server on: whether an allocation failed, how the exchange ended, if it did, the bytes that came, those of them
+-- that are not a whole message, what was sent, and the server then. Each piece is read when nothing of those before is
+-- left to be done, unless an allocation failed
 pub data Rounds (limit : ℕ) (s : Server) : Bool → Option Ended → List ℕ → List ℕ → List (List ℕ) → Server → Type 0 where
   NoRound : Rounds limit s false None [] [] [] s
   NextRound : (short : Bool) (bytes rest piece now : List ℕ) (sent more : List (List ℕ)) (t u : Server) (left : Left) →
@@ -273,10 +275,9 @@ abbrev pub IsOver : Option Ended → Ended → Server → List ℕ → Option (L
 IsOver (Some ended) finished t rest unread = finished ≡ ended
 IsOver None finished t rest unread = (finished ≡ ended_at t.phase) × IsPartial rest × IsAtEnd unread
 
--- the bytes that came are messages in their order, which were reported to a new server, and then the rest; what it
--- sent, each message after its header, was written in its order; and so the exchange ended. Whenever more was read, and
--- when nothing more came, what the server asked for was given, and what was found was published, unless memory was
--- refused
+-- the bytes that came are messages in their order, which were given to a new server, and then the rest; what it sent,
+-- each message after its header, was written in its order; and so the exchange ended. Whenever more was read, and when
+-- nothing more came, what the server asked for was given, and findings were published, unless an allocation failed
 pub record IsServed (limit : ℕ) (finished : Ended) (short : Bool) (read unread old new : Option (List ℕ)) : Type 0 where
   pub first : Server
   pub last : Server
@@ -294,7 +295,7 @@ pub record IsServed (limit : ℕ) (finished : Ended) (short : Bool) (read unread
   pub rounds : Rounds limit first short ended bytes rest sent last
   pub done : ended ≡ None → short ≡ false → IsAtRest last
 
--- ---- as far as it has come
+-- ---- the exchange so far
 
 -- these bytes were taken except those that are held, and what was sent was written
 pub record IsTalking (limit : ℕ) (ended : Option Ended) (s t : Server) (bytes : List ℕ) (held : Held) (old new : Option (List ℕ)) : Type 0 where
@@ -306,14 +307,14 @@ pub record IsTalking (limit : ℕ) (ended : Option Ended) (s t : Server) (bytes 
   pub talked : Talks s (map (frame_of limit) items) sent ended t
   pub written : Appends old new (flat_map frame sent)
 
--- .. and no whole message is left, unless one ended the exchange; then nothing is left to be done, unless an allocation failed
--- for a part of it
+-- .. and no whole message is left, unless one ended the exchange; then nothing is left to be done, unless an allocation
+-- failed for a part of it
 pub record IsWaiting (limit : ℕ) (left : Left) (s t : Server) (bytes : List ℕ) (held : Held) (old new : Option (List ℕ)) : Type 0 where
   pub talking : IsTalking limit (ended_of left) s t bytes held old new
   pub partial : ended_of left ≡ None → IsPartial talking.rest
   pub done : IsLeft left t
 
--- what is asked for still was given, and what is found was published and written
+-- what was still asked for was given, and findings were published and written
 pub record Rests (left : Left) (s t : Server) (old new : Option (List ℕ)) : Type 0 where
   pub mid : Server
   pub sent : Outgoing

@@ -18,7 +18,7 @@ use Rattle.tera_program.specs.declared.job.Defaults.{Defaults}
 use Rattle.tera_program.specs.declared.settings.Site.{Site}
 use Rattle.tera_program.specs.declared.settings.Words.{Words}
 
--- ---- what a file says, in the forms that it has on its way to a job
+-- ---- what a file says, in the forms in which a job gets it
 
 pub record SiteVal : Type 0 where
   pub root : Option (List ℕ)
@@ -79,6 +79,6 @@ AreRegistered known (Some r) = AreListed (texts_view known.filters) (texts_view 
 abbrev pub or_none : Option (List (List ℕ)) → List (List ℕ)
 or_none given = unwrap_or given []
 
--- where something is wrong in a file of settings
+-- the place where something is wrong in a file of settings
 abbrev pub place_text : WrongFile → List ℕ
 place_text wrong = string_bytes wrong.file ++ (codes ":" ++ (decimal wrong.line ++ (codes ":" ++ decimal wrong.column)))

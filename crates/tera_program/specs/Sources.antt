@@ -1,4 +1,4 @@
--- Sources by the names of their files, and the templates that are read of them.
+-- Sources by the names of their files, and the templates that are read from them.
 use Rattle.std.specs.Prelude.{◌≡◌, ◌++◌, ℕ, List, [], ◌∷◌, Bool, true, false, Option, None, Some, IfErr, IfOk, IfSome, if◌then◌else◌, bytes_eq, map, string_bytes}
 use Rattle.tera_check.specs.Bodies.{HasHidden}
 use Rattle.tera_check.specs.Ignores.{AreIgnoresIn}
@@ -25,17 +25,17 @@ abbrev pub with_source : Known → Source → Known
 with_source known source file =
     if bytes_eq (string_bytes source.file) file then Some (string_bytes source.text) else known file
 
--- and of more sources; of one name the last counts
+-- and with more sources; if several have one name, the last counts
 abbrev pub with_sources : Known → List Source → Known
 with_sources known [] = known
 with_sources known (source ∷ more) = with_sources (with_source known source) more
 
--- the markers between which is read: those that are asked for, or the usual ones
+-- the markers that are used: those that are asked for, or the usual ones
 abbrev pub marks_in : Option Delimiters → Marks
 marks_in None = default_marks
 marks_in (Some markers) = marks_of markers
 
--- A template is that of the source of a file between markers, of which at most so many faults are reported.
+-- The template is read from the source of a file between markers, and at most so many faults are reported.
 pub record IsReadFrom (m : Marks) (file source : List ℕ) (faults : ℕ) (template : Template) : Type 0 where
   pub named : string_bytes template.file ≡ file
   pub read : IfOk template.parsed (λ output. Derives usual m source (output_view output))
@@ -51,7 +51,7 @@ AddsKept true file text old new =
     (source : Source) × (string_bytes source.file ≡ file) × (string_bytes source.text ≡ text) × (new ≡ old ++ source ∷ [])
 AddsKept false file text old new = new ≡ old
 
--- The template of a file goes after the others, and so does its source where it is kept.
+-- The template of a file goes after the others, and so does its source, if it is kept.
 pub record AddsRead (m : Marks) (file text : List ℕ) (faults : ℕ) (keeps : Bool) (old new : Templates) : Type 0 where
   pub template : Template
   pub read : IsReadFrom m file text faults template
@@ -65,7 +65,7 @@ UnreadVal = List ℕ × List ℕ
 abbrev pub unreadable_view : Unreadable → UnreadVal
 unreadable_view one = (string_bytes one.file, string_bytes one.why)
 
--- A file that could not be read goes after the others, and why.
+-- A file that could not be read goes after the others, with the reason.
 pub record AddsUnread (file why : List ℕ) (old new : Templates) : Type 0 where
   pub unread : map unreadable_view new.unread.items ≡ map unreadable_view old.unread.items ++ (file, why) ∷ []
   pub templates : new.templates ≡ old.templates

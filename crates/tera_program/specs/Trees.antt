@@ -25,12 +25,12 @@ use Rattle.tera_program.specs.Sources.{IsReadFrom, nothing, with_source}
 use Rattle.tera_program.specs.declared.tree.Shape.{Shape}
 use Rattle.tera_program.specs.declared.tree.Shown.{Shown}
 
--- how many faults are reported at the most
+-- how many faults are reported at most
 abbrev pub max_faults : ℕ
 max_faults = 100
 
--- The template that is read of a source between markers: its tree is that of the source where this is a template, or else that of the text
--- to which its faults lead.
+-- The template that is read from a source between markers. Its tree is the tree of the source, if this is a template,
+-- or else of the text to which its faults lead.
 pub record IsTemplateOf (m : Marks) (source : Source) (template : Template) : Type 0 where
   pub read : IsReadFrom m (string_bytes source.file) (string_bytes source.text) max_faults template
   pub clean : (output : Output) → Derives usual m (string_bytes source.text) output →
@@ -38,7 +38,7 @@ pub record IsTemplateOf (m : Marks) (source : Source) (template : Template) : Ty
   pub tree : IfSome (tree_of template) (λ o. (names : Places)
       × DerivesNames usual m (text_of (string_bytes source.text) template) (output_view o) names)
 
--- the lines of a tree, where there is one
+-- the lines of a tree, if there is one
 abbrev pub tree_lines : Bool → Option Output → List ℕ
 tree_lines terminal None = []
 tree_lines terminal (Some output) = lines_for terminal (tree.text_of output)
@@ -47,7 +47,7 @@ tree_lines terminal (Some output) = lines_for terminal (tree.text_of output)
 abbrev pub faults_text : Style → Source → List FindingVal → List ℕ
 faults_text style source faults = flat_map (full_text style (with_source nothing source) (string_bytes source.file)) faults
 
--- for people: the lines of the tree, and beside them all faults in the order of their places
+-- for people: the lines of the tree, and all faults in the order of their places
 pub record AreLines (style : Style) (terminal : Bool) (source : Source) (template : Template) (shown : Shown) : Type 0 where
   pub faults : List Finding
   pub in_order : IsInOrder faults
@@ -55,7 +55,7 @@ pub record AreLines (style : Style) (terminal : Bool) (source : Source) (templat
   pub tree : shown.tree.items ≡ tree_lines terminal (option_map output_view (tree_of template))
   pub beside : string_bytes shown.faults ≡ faults_text style source (map finding_view faults)
 
--- for programs: a line of JSON with the tree and the faults, and nothing beside it
+-- for programs: a line of JSON with the tree and the faults, and nothing else
 pub record IsJson (template : Template) (shown : Shown) : Type 0 where
   pub tree : IsTreeLine template shown.tree.items
   pub beside : string_bytes shown.faults ≡ []

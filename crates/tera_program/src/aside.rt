@@ -1,4 +1,4 @@
-//! Files and folders that are open, and single ones that the reading of folders leaves out.
+//! Open folders, and the files that are left out when they are read.
 
 ghost use Rattle.std.specs.Prelude.{◌≡◌, true, map, string_bytes, IfOk};
 ghost use Rattle.std.specs.List.{list_any};
@@ -9,8 +9,8 @@ use std::fs;
 use std::rt::Files;
 use tera_files::is_left_out as is_name_left_out;
 
-/// Whether the file of this path is in a folder that is open, and is left out when that is read: a name on the way
-/// to it is left out, or a link is. Below several of these folders it is left out if each of them leaves it out.
+/// Whether the file of this path is in an open folder, and is left out when that is read: a name on the way to it is
+/// left out, or a link is on the way. If it is in several open folders, it is left out if each of them leaves it out.
 pub(crate) fn is_left_out<F: Files + AllocGlobal>(
     files: &F,
     folders: &[String],
@@ -28,14 +28,14 @@ pub(crate) fn is_left_out<F: Files + AllocGlobal>(
     left_out
 }
 
-/// Whether the file of this path is in a folder that is open.
+/// Whether the file of this path is in an open folder.
 pub(crate) fn is_in_any(folders: &[String], path: &str) -> bool {
     folders
         .iter()
         .any(|folder| rest_below(folder.as_str(), path).is_some())
 }
 
-/// Whether the folder of this path is open, or is read where one is that it is in.
+/// Whether the folder of this path is open, or is read as a part of an open folder.
 pub(crate) fn is_read<F: Files + AllocGlobal>(
     files: &F,
     folders: &[String],
@@ -52,14 +52,14 @@ pub(crate) fn is_read<F: Files + AllocGlobal>(
     Ok(is_in_any(folders, path) && !is_left_out(files, folders, inner.as_str()))
 }
 
-/// Whether this folder is one of those that are open.
+/// Whether this folder is one of the open ones.
 pub(crate) fn is_open(folders: &[String], path: &str) -> bool
     ensures { result ≡ list_any (λ f. bytes_eq f path.now) (map string_bytes folders.now) }
 {
     folders.iter().any(|folder| folder.as_str() == path)
 }
 
-// What is after the folder in a path below it, which begins with a slash.
+// The rest of a path after the folder that it is below, which begins with a slash.
 fn rest_below<'a>(folder: &str, path: &'a str) -> Option<&'a str> {
     let rest = path.strip_prefix(folder)?;
     if rest.starts_with('/') {
@@ -73,7 +73,7 @@ fn has_left_out(rest: &str) -> bool {
     rest.split('/').any(|name| is_name_left_out(name))
 }
 
-// Whether the folder of the file is after a link that is below the folder that is open.
+// Whether the path of the file goes through a link below the open folder.
 fn is_linked<F: Files + AllocGlobal>(files: &F, folder: &str, path: &str, rest: &str) -> bool {
     let (Some((parent, _)), Some((below, _))) = (path.rsplit_once('/'), rest.rsplit_once('/'))
     else {

@@ -30,9 +30,9 @@ use std::{fs, io};
 use tera_check::Registered;
 use terminal_text::Style;
 
-/// Checks the files, beside those of the library.
+/// Checks the files, together with those of the library.
 ///
-/// The templates that are checked are before those of the library, so that of two components of one name theirs counts.
+/// The checked templates are before those of the library. So if both define a component of one name, theirs counts.
 pub(crate) fn run<R: Files + Env + Input + Print + Eprint + AllocGlobal + Clone + Drop>(
     rt: &R,
     terminals: Terminals,
@@ -61,7 +61,7 @@ pub(crate) fn run<R: Files + Env + Input + Print + Eprint + AllocGlobal + Clone 
     let reading = Reading {
         markers,
         faults,
-        // Excerpts and fixes alone want the sources.
+        // Only excerpts and fixes need the sources.
         keeps_sources: job.fix || matches!(job.form, Form::Full),
     };
     match read_site(rt, job, files, &reading) {
@@ -78,7 +78,7 @@ pub(crate) fn run<R: Files + Env + Input + Print + Eprint + AllocGlobal + Clone 
     }
 }
 
-// Why this cannot be checked, if an option says what cannot be.
+// Why the job cannot be done, if an option asks for something that cannot be.
 fn why_unfit(rt: &impl Files, job: &Check<'_, '_>, files: &[&str]) -> Option<&'static str> {
     if has_input(job.library) {
         return Some("--library: expected a file or a folder");
@@ -92,7 +92,8 @@ fn why_unfit(rt: &impl Files, job: &Check<'_, '_>, files: &[&str]) -> Option<&'s
     None
 }
 
-// Writes what is suggested to the files, and says on standard error how much that was. The answer is whether it went well.
+// Writes what is suggested to the files, and says on standard error how much that was. The result is whether all went
+// well.
 fn fix<R: Files + Eprint + AllocGlobal>(
     rt: &R,
     job: &Check<'_, '_>,
@@ -118,7 +119,7 @@ fn fix<R: Files + Eprint + AllocGlobal>(
     }
 }
 
-// The number that the word is, unless that is 0.
+// The number in the word, unless it is 0.
 fn number_from_1(word: &str) -> Option<usize>
     ensures above { IfSome result (λ n. 0 < n) }
     ensures decimal { (n : ℕ) → 0 < n → n < 2 ^ 64 → word.now ≡ decimal n → result ≡ Some n }
@@ -129,7 +130,7 @@ fn number_from_1(word: &str) -> Option<usize>
     }
 }
 
-// Reads the files and the library, and of a site the rest of its templates and their names.
+// Reads the files and the library and, for a site, the rest of its templates and their names.
 fn read_site<R: Files + Input + Eprint + AllocGlobal + Clone + Drop>(
     rt: &R,
     job: &Check<'_, '_>,
@@ -178,8 +179,8 @@ fn has_input(library: Option<&[&str]>) -> bool {
     }
 }
 
-// Writes what is found in the templates. The answer is how the program ends by that, and whether standard error took what
-// is said there.
+// Writes what is found in the templates. The result is how the program ends by that, and whether standard error took
+// what was written to it.
 fn run_on<R: Eprint + AllocGlobal, W: Write>(
     rt: &R,
     style: Style,
@@ -237,7 +238,7 @@ fn write_all_findings<W: Write>(
     )
 }
 
-// How the program ends where so many files could not be read. With `strict` a warning is as much as an error.
+// How the program ends if so many files could not be read. With `strict` a warning counts like an error.
 fn ended(report: &Result<Report, AllocError>, strict: bool, unread: usize) -> Ended
     ensures { result ≡ ended_of report.now strict unread }
 {
@@ -250,7 +251,7 @@ fn ended(report: &Result<Report, AllocError>, strict: bool, unread: usize) -> En
     }
 }
 
-// Says on standard error why not all was written, or else the last line. The answer is whether that went well.
+// Says on standard error why not all was written, or else the summary line. The result is whether that went well.
 fn print_end<R: Eprint + AllocGlobal>(
     rt: &R,
     job: &Check<'_, '_>,
@@ -270,12 +271,12 @@ fn print_end<R: Eprint + AllocGlobal>(
     }
 }
 
-// The forms that other programs read have no last line.
+// Whether there is a summary line. The forms for other programs have none.
 fn is_counted(job: &Check<'_, '_>) -> bool {
     !job.common.quiet && matches!(job.form, Form::Full | Form::Concise)
 }
 
-// The last line, which counts what was written and the files that were read.
+// The summary line, which counts what was written and the files that were read.
 fn last_line(alloc: Global, all: &Templates, report: &Report) -> Result<String, AllocError>
     ensures { IfOk result (λ line. string_bytes line
         ≡ checked_line (counts_of all.now report.now) ++ 10 ∷ []) }

@@ -30,7 +30,7 @@ pub(crate) fn style<R: Env + AllocGlobal>(rt: &R, colours: Colours, terminal: bo
     style_of(colours, terminal && !is_set(rt, "NO_COLOR") && !is_dumb(rt))
 }
 
-// Colours, if they are asked for, or if nobody asked and the stream shows them.
+// Colours, if they are asked for, or if nothing is asked for and the stream shows them.
 fn style_of(colours: Colours, shows_colours: bool) -> Style
     ensures { result ≡ style_of colours shows_colours }
 {
@@ -45,7 +45,7 @@ fn is_set<R: Env + AllocGlobal>(rt: &R, name: &str) -> bool {
     env::var(rt, name).is_ok_and(|value| !value.is_empty())
 }
 
-// Whether the terminal says that it obeys no escapes.
+// Whether the terminal says that it does not obey escapes.
 fn is_dumb<R: Env + AllocGlobal>(rt: &R) -> bool {
     env::var(rt, "TERM").is_ok_and(|value| value.as_str() == "dumb")
 }

@@ -40,7 +40,7 @@ pub(crate) fn run<R: Files + Env + Input + Print + Eprint + AllocGlobal + Clone 
     }
 }
 
-// The catalogue is written also where a file could not be read, or has a fault.
+// The catalogue is also written if a file could not be read, or has a fault.
 fn listed<R: Files + Env + Input + Print + Eprint + AllocGlobal + Clone + Drop>(
     rt: &R,
     terminals: Terminals,

@@ -1,4 +1,4 @@
-//! The last line, which counts.
+//! The summary line.
 
 ghost use Rattle.std.specs.Prelude.{◌≡◌, ◌++◌, IfOk, OnOk, string_bytes};
 ghost use Rattle.terminal_text.specs.Counted.{counted};
@@ -20,7 +20,7 @@ pub(crate) struct Checked {
     pub(crate) unread: usize,
 }
 
-/// `8 files checked, 7 findings in 3 files, 1 could not be read`
+/// `8 files checked, 7 findings in 3 files, 1 could not be read`.
 pub(crate) fn checked_line(alloc: Global, counts: Checked) -> Result<String, AllocError>
     ensures { IfOk result (λ line. string_bytes line ≡ checked_line counts) }
 {
@@ -31,7 +31,7 @@ pub(crate) fn checked_line(alloc: Global, counts: Checked) -> Result<String, All
     Ok(line)
 }
 
-/// `3 findings fixed in 2 files`, and that another run may fix more, with a line feed
+/// `3 findings fixed in 2 files` with a line feed, and that another run may fix more, if so.
 pub(crate) fn fixed_line(
     alloc: Global,
     findings: usize,
@@ -102,7 +102,7 @@ pub(crate) struct Listed {
     pub(crate) unread: usize,
 }
 
-/// `12 components in 5 files, 1 with a fault, 1 could not be read`
+/// `12 components in 5 files, 1 with a fault, 1 could not be read`.
 pub(crate) fn listed_line(alloc: Global, counts: Listed) -> Result<String, AllocError>
     ensures { IfOk result (λ line. string_bytes line ≡ listed_line counts) }
 {
@@ -114,7 +114,7 @@ pub(crate) fn listed_line(alloc: Global, counts: Listed) -> Result<String, Alloc
     Ok(line)
 }
 
-/// What became of files.
+/// What was done with files.
 #[derive(Clone, Copy, Debug)]
 pub(crate) struct LaidOut {
     pub(crate) changed: usize,
@@ -124,7 +124,7 @@ pub(crate) struct LaidOut {
     pub(crate) failed: usize,
 }
 
-/// `3 files laid out, 7 left as they were, 2 with a fault, 1 failed`
+/// `3 files laid out, 7 left as they were, 2 with a fault, 1 failed`.
 pub(crate) fn laid_out_line(
     alloc: Global,
     mode: Mode,
@@ -158,7 +158,7 @@ fn left(mode: Mode) -> &'static str
     }
 }
 
-// Adds how many there are, unless there is none.
+// Adds the number with this text, unless it is 0.
 fn push_count(alloc: Global, line: &mut String, number: usize, what: &str) -> Result<(), AllocError>
     ensures { OnOk result (string_bytes line.new
         ≡ string_bytes line.old ++ with_count number what.now) }

@@ -15,8 +15,8 @@ use tera_files::Found;
 // Paths by which the system knows files, each as its components.
 type Paths = BTreeSet<Vec<String>>;
 
-/// What is found, without what is at one of these paths or below it. They are paths by which the system knows files. A
-/// file of which it knows none stays.
+/// What is found, without what is at one of these paths or below it. The system knows files by these paths. A file for
+/// which it has no path stays.
 pub(crate) fn leave_out<R: Files + AllocGlobal>(
     rt: &R,
     exclude: &[&str],
@@ -83,7 +83,7 @@ pub(crate) fn is_excluded<R: Files + AllocGlobal>(
     }
 }
 
-// The path by which the system knows the file or folder, if it knows one.
+// The path by which the system knows the file or folder, if it has one.
 fn known<R: Files + AllocGlobal>(rt: &R, path: &str) -> Result<Option<String>, AllocError> {
     match fs::canonicalize(rt, path) {
         Ok(known) => Ok(Some(known.into_string())),
@@ -110,7 +110,7 @@ fn is_in(folder: &str, path: &str) -> bool
     Path::new(path).starts_with(folder)
 }
 
-// Whether the file, or a folder above it, is at one of the paths: the time hardly grows with the number of these.
+// Whether the file, or a folder above it, is at one of the paths. The time hardly grows with the number of paths.
 fn is_below<R: Files + AllocGlobal>(rt: &R, paths: &Paths, path: &str) -> Result<bool, AllocError> {
     match known(rt, path)? {
         Some(path) => is_below_one(rt.alloc(), paths, path.as_str()),
@@ -126,7 +126,7 @@ fn is_below_one(alloc: Global, paths: &Paths, path: &str) -> Result<bool, AllocE
     Ok(begins_in(paths, names.as_slice()))
 }
 
-// Whether the first of the names, or all, are one of the paths.
+// Whether one of the paths is all of these names, or the first of them.
 fn begins_in(paths: &Paths, names: &[String]) -> bool
     ensures { IsTrue result ↔ ((end : ℕ) × (end ≤ length names.now)
         × IsTrue (has_names paths.now (map string_bytes (take end names.now)))) }

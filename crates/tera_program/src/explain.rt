@@ -10,7 +10,7 @@ use crate::status::Ended;
 use std::alloc::{AllocError, Global};
 use tera_check::{KINDS, Kind};
 
-/// Prints what there is to know about the rule of this name.
+/// Prints the explanation of the rule of this name.
 pub(crate) fn run<R: Print + Eprint + AllocGlobal>(rt: &R, rule: &str) -> Ended {
     match text_of(rt.alloc(), rule) {
         Ok(text) => Ended {
@@ -24,7 +24,8 @@ pub(crate) fn run<R: Print + Eprint + AllocGlobal>(rt: &R, rule: &str) -> Ended 
     }
 }
 
-// The rule with how grave it is, and its section. What is not a kind of findings is a file that could not be read.
+// The rule with its severity, and its section. A rule that is not a kind of findings is the one for files that could
+// not be read.
 fn text_of(alloc: Global, rule: &str) -> Result<String, AllocError> {
     match kind_named(rule) {
         Some(kind) => text_with(alloc, kind, explanation(kind)),
@@ -39,7 +40,7 @@ fn text_with(alloc: Global, kind: Kind, section: &str) -> Result<String, AllocEr
     format!(in alloc; "{rule}: {severity}\n{section}")
 }
 
-/// The kind of findings whose word this is.
+/// The kind of findings with this name.
 pub(crate) fn kind_named(word: &str) -> Option<Kind>
     ensures { IfSome result (λ kind. kind_name kind ≡ word.now) }
 {

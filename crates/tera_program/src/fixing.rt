@@ -1,4 +1,4 @@
-//! What is found in templates, put right in their files.
+//! Corrections of findings, written to the files.
 
 ghost use Rattle.std.specs.Prelude.{◌≡◌, ◌&&◌, IfOk, IfSome, filter, map};
 ghost use Rattle.std.specs.List.{list_any};
@@ -20,10 +20,10 @@ use tera_check::{Catalogue, Finding, Kind, Levels, Template, catalogue_of, findi
 use tera_files::{Source, replace};
 use tera_fixes::{Meanings, Suggestion, are_too_many, edited, fewer_in, suggestions_by};
 
-/// What was put right.
+/// What was corrected.
 #[derive(Clone, Copy, Debug)]
 pub(crate) struct Fixed {
-    /// How many findings there are fewer.
+    /// How many findings were removed.
     pub(crate) findings: usize,
     /// In how many files.
     pub(crate) files: usize,
@@ -33,22 +33,22 @@ pub(crate) struct Fixed {
     pub(crate) more: bool,
 }
 
-// Another text for a file.
+// A corrected text for a file.
 #[derive(Drop)]
 struct Fix {
     /// The number of its template.
     number: usize,
     text: String,
-    /// What it is read as.
+    /// The template that is read from it.
     template: Template,
     /// How many findings it has fewer.
     fewer: usize,
-    /// Whether something may be suggested for more findings than it was.
+    /// Whether more findings may have a suggestion than got one.
     more: bool,
 }
 
-/// Writes what is suggested for the files that are checked: for those of the findings that are reported. The templates and
-/// the sources are then those of the files. Standard error says which file could not be written; it stays as it was.
+/// Writes what is suggested for the findings that are reported in the checked files. The templates and the sources are
+/// then those of the files. Standard error says which file could not be written; it stays as it was.
 pub(crate) fn fix_all<R: Files + Eprint + AllocGlobal>(
     rt: &R,
     job: &Check<'_, '_>,
@@ -76,7 +76,7 @@ pub(crate) fn fix_all<R: Files + Eprint + AllocGlobal>(
     Ok(fixed)
 }
 
-// Writes the text of a fix, and keeps what it is read as. The answer is whether that went well.
+// Writes the text of a fix, and keeps the template that is read from it. The result is whether that went well.
 fn put<R: Files + Eprint + AllocGlobal>(rt: &R, fix: Fix, all: &mut Templates) -> bool {
     let (Some(template), Some(source)) = (
         all.templates.get_mut(fix.number),
@@ -103,11 +103,11 @@ fn put<R: Files + Eprint + AllocGlobal>(rt: &R, fix: Fix, all: &mut Templates) -
     }
 }
 
-// The templates that are checked, and what is known of their components.
+// What is known of the components of the checked templates.
 #[derive(Clone, Copy)]
 struct Known<'c, 'a> {
     catalogue: &'c Catalogue<'a>,
-    /// Whether there may be more components: a template has a fault that may hide one, or a file could not be read.
+    /// Whether there may be more components: a fault in a template may hide one, or a file could not be read.
     is_open: bool,
 }
 
@@ -151,13 +151,13 @@ fn fixes_of(
     Ok(fixes)
 }
 
-// Of which findings the suggestions are taken together.
+// The findings whose suggestions are tried together.
 #[derive(Clone, Copy)]
 enum Choice {
     All,
-    // What is found in the arguments of calls.
+    // Findings in the arguments of calls.
     Arguments,
-    // What is found of the names of calls.
+    // Findings at the names of calls.
     Components,
 }
 
@@ -176,9 +176,9 @@ impl Choice {
     }
 }
 
-// The fix of a template, if it has a tree, the source is that of its file, and a text with what is suggested for it is
-// better: with all that is suggested, or else for arguments alone or for components alone, as the one may show what is
-// wrong with the other.
+// The fix of a template, if it has a tree, the source is the source of its file, and a text with suggestions is better:
+// with all of them, or else only with those for arguments, or only for components. A suggestion of one kind may show
+// what is wrong with the other.
 #[tactic(auto, using(crate::proofs::FixingLemmas::fix_of_found))]
 fn fix_of(
     alloc: Global,
@@ -225,7 +225,7 @@ struct Before<'t> {
     found: &'t Vec<Finding>,
 }
 
-// The fix with what is suggested for these findings, if it is better.
+// The fix with the suggestions for these findings, if it is better.
 #[tactic(auto, using(crate::proofs::FixingLemmas::read_fix))]
 fn fix_by(
     alloc: Global,
@@ -284,7 +284,7 @@ fn has_any(suggestions: &Vec<Option<Suggestion>>) -> bool
     suggestions.iter().any(|suggestion| suggestion.is_some())
 }
 
-// Those of the findings that are reported and taken.
+// The findings that are reported and taken by the choice.
 fn reported_of<'f>(
     alloc: Global,
     rules: Levels<'_, '_>,

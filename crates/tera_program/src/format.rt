@@ -21,7 +21,7 @@ use tera_files::{Source, read_source, replace};
 use tera_parser::lexer::Delimiters;
 use terminal_text::Style;
 
-// What became of one file.
+// What was done with one file.
 #[derive(Clone, Copy)]
 enum Became {
     Changed,
@@ -34,7 +34,7 @@ enum Became {
 }
 
 impl Became {
-    // Of a template, once its answer was written, or not.
+    // For a template; `is_written` says whether its output was written.
     fn of_plan(plan: &Plan, is_written: bool) -> Became {
         match plan {
             _ if !is_written => Became::Unreported,
@@ -43,7 +43,7 @@ impl Became {
         }
     }
 
-    // Of what is not a template, once its fault was written, or not.
+    // For a file that is not a template; `is_written` says whether its fault was written.
     fn of_fault(is_written: bool) -> Became {
         if is_written {
             Became::Faulty
@@ -62,7 +62,7 @@ struct Styles {
     is_terminal: bool,
 }
 
-/// Lays out the files.
+/// Formats the files.
 pub(crate) fn run<R: Files + Env + Input + Print + Eprint + AllocGlobal + Clone + Drop>(
     rt: &R,
     terminals: Terminals,
@@ -125,7 +125,7 @@ fn lay_out_all<R: Files + Input + Print + Eprint + AllocGlobal + Clone + Drop>(
     Ok(ended(job.mode, counts))
 }
 
-// How the program ends where this became of the files.
+// How the program ends if this was done with the files.
 fn ended(mode: Mode, counts: LaidOut) -> Ended {
     Ended {
         found: counts.faulty > 0 || (mode != Mode::Write && counts.changed > 0),
@@ -185,7 +185,7 @@ fn lay_out<R: Files + Input + Print + Eprint + AllocGlobal>(
     Ok(Became::of_plan(&plan, is_written))
 }
 
-// Writes what an action has for standard output. No file can be written here.
+// Writes the output of an action to standard output. This writes no file.
 fn put_action<R: Print + Eprint + AllocGlobal>(
     rt: &R,
     styles: Styles,

@@ -28,10 +28,10 @@ use tera_report::{
 use tera_server::VERSION;
 use terminal_text::{Sources, Style};
 
-// Most findings are reported in so many bytes.
+// Most findings are reported in at most so many bytes.
 const ROOM: usize = 1024;
 
-/// The text of files that could not be read, and of what is found in some templates, with what is suggested for it.
+/// The text of the files that could not be read, and of what is found in some templates, with suggestions.
 pub(crate) fn text_of(
     alloc: Global,
     form: Form,
@@ -82,7 +82,7 @@ fn push_unread(
             push_unread_annotation(alloc, &mut text, file, why)?;
             to.extend_from_slice(text.as_bytes())
         }
-        // Standard error is enough for people, and a log has no text of single results.
+        // For people standard error is enough, and a log has no text of single results.
         Form::Full | Form::Concise | Form::Sarif => Ok(()),
     }
 }
@@ -167,7 +167,7 @@ fn push_finding(
     }
 }
 
-// Adds the line of what is suggested for the finding, if anything is.
+// Adds the line of the suggestion for the finding, if there is one.
 fn push_help_if_any(
     alloc: Global,
     to: &mut String,
@@ -185,7 +185,7 @@ fn push_help_if_any(
     }
 }
 
-// The log of all, and a line feed.
+// The log of all of this, and a line feed.
 fn log_of(alloc: Global, unread: &[Unreadable], all: &[Found<'_>]) -> Result<Vec<u8>, AllocError>
     ensures { IfOk result (λ text. text.items
         ≡ print (log_of (map unreadable_view unread.now) (map found_view all.now)) ++ 10 ∷ []) }

@@ -1,4 +1,4 @@
-//! What counts of what is found in templates.
+//! How many findings there are in templates, and whether there is an error.
 
 ghost use Rattle.std.specs.Prelude.{◌≡◌};
 ghost use Rattle.std.specs.List.{list_any};
@@ -38,7 +38,7 @@ fn is_error(severity: Severity) -> bool
     }
 }
 
-/// How many findings there are, as far as a number goes.
+/// How many findings there are, or the greatest `usize` if there are more.
 pub(crate) fn count_of(all: &[Found<'_>]) -> usize
     ensures { result ≡ count_in all.now }
 {
@@ -49,7 +49,7 @@ pub(crate) fn count_of(all: &[Found<'_>]) -> usize
     count
 }
 
-/// In how many templates something is found.
+/// How many templates have a finding.
 pub(crate) fn faulty_of(all: &[Found<'_>]) -> usize
     ensures { result ≡ faulty_in all.now }
 {

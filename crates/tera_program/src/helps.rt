@@ -1,4 +1,4 @@
-//! What is suggested for what is found, where a form has it.
+//! Suggestions for findings, if the form has them.
 
 ghost use Rattle.std.specs.Prelude.{◌≡◌, IfOk, map};
 ghost use Rattle.std.specs.Option.{option_map};
@@ -14,11 +14,11 @@ use tera_check::{Catalogue, Found, Template, catalogue_of};
 use tera_files::Source;
 use tera_fixes::{Meanings, Suggestion, suggestions_by};
 
-/// Of each template what is suggested for each of its findings.
+/// For each template the suggestion for each of its findings, if there is one.
 pub(crate) type Helps = Vec<Vec<Option<Suggestion>>>;
 
-/// What is suggested for what is found in the templates, if the form has it. Without its source nothing is suggested for a
-/// template.
+/// The suggestions for what is found in the templates, if the form has them. There is none for a template without its
+/// source.
 pub(crate) fn helps_for(
     alloc: Global,
     form: Form,
@@ -61,7 +61,8 @@ fn helps_of(
     Ok(helps)
 }
 
-// What is suggested for the findings in one template, by what is meant by the words that were looked for before.
+// The suggestions for the findings in one template. `meanings` has what is meant by the words that were compared
+// before.
 fn help_of(
     alloc: Global,
     catalogue: &Catalogue<'_>,
@@ -93,7 +94,7 @@ fn help_of(
     )
 }
 
-/// The title of what is suggested for the finding of a number in the template of a number.
+/// The title of the suggestion for finding `at` of template `number`.
 pub(crate) fn help_at(helps: &[Vec<Option<Suggestion>>], number: usize, at: usize) -> Option<&str>
     ensures { option_map (λ t. t.now) result ≡ help_in helps.now number at }
 {

@@ -1,4 +1,4 @@
-//! What the words of the command line ask.
+//! What the words of the command line ask for.
 
 ghost use Rattle.std.specs.Prelude.{◌≡◌, [], option_map, option_and_then, unwrap_or, codes};
 ghost use Rattle.clap.specs.Words.{found_of, rows_of, first_of, all_of, subcommand_rows_of};
@@ -9,22 +9,22 @@ use crate::colours::Colours;
 use clap::ArgMatches;
 use tera_check::{Levels, RuleLevel};
 
-/// What is to be done.
+/// What to do.
 #[derive(Clone, Copy, Debug)]
 pub(crate) enum Job<'b, 'a> {
     Check(Check<'b, 'a>),
     Tree(Tree<'b, 'a>),
     Components(Components<'b, 'a>),
     Format(Format<'b, 'a>),
-    /// The rule of this name is explained.
+    /// Explain the rule of this name.
     Explain(&'a str),
     Server,
 }
 
-/// What each job is reported.
+/// What each job gets from the command line.
 #[derive(Clone, Copy, Debug)]
 pub(crate) struct Common<'b, 'a> {
-    /// How the names of templates end in a folder, where that is not as usual.
+    /// The extensions of templates in folders, if not the usual ones.
     pub(crate) extensions: Option<&'b [&'a str]>,
     /// Files and folders that are left out, by the paths by which the system knows them.
     pub(crate) exclude: Option<&'b [&'a str]>,
@@ -38,7 +38,7 @@ pub(crate) struct Common<'b, 'a> {
     pub(crate) no_config: bool,
 }
 
-/// What a file of settings says. It counts where no option says otherwise.
+/// What a file of settings says, for all that no option sets.
 #[derive(Clone, Copy, Debug)]
 pub(crate) struct Defaults<'b, 'a> {
     pub(crate) root: Option<&'a str>,
@@ -53,18 +53,18 @@ pub(crate) struct Defaults<'b, 'a> {
 #[derive(Clone, Copy, Debug)]
 pub(crate) struct Check<'b, 'a> {
     pub(crate) form: Form,
-    /// Where the components are that may be called, beside those of the files.
+    /// Paths with more components that may be called.
     pub(crate) library: Option<&'b [&'a str]>,
     /// The folder below which the templates of the site have their names.
     pub(crate) root: Option<&'a str>,
-    /// How many faults of a file are reported at the most: a word, which need be no number.
+    /// How many faults of a file are reported at most: a word, which may not be a number.
     pub(crate) max_faults: &'a str,
     pub(crate) rules: Levels<'b, 'a>,
-    /// Whether the status is that of an error where there are only warnings.
+    /// Whether warnings count like errors for the status.
     pub(crate) error_on_warnings: bool,
     /// Whether what is suggested is written to the files.
     pub(crate) fix: bool,
-    /// Six markers in one word, where they are not the usual ones.
+    /// Six markers in one word, if they are not the usual ones.
     pub(crate) markers: Option<&'a str>,
     pub(crate) files: Option<&'b [&'a str]>,
     pub(crate) common: Common<'b, 'a>,
@@ -83,9 +83,9 @@ pub(crate) enum Form {
 #[derive(Clone, Copy, Debug)]
 pub(crate) struct Tree<'b, 'a> {
     pub(crate) json: bool,
-    /// Whether it is shown of a template with faults too, beside these.
+    /// Whether the tree of a template with faults is shown too, together with the faults.
     pub(crate) faulty: bool,
-    /// Six markers in one word, where they are not the usual ones.
+    /// Six markers in one word, if they are not the usual ones.
     pub(crate) markers: Option<&'a str>,
     pub(crate) file: &'a str,
     pub(crate) common: Common<'b, 'a>,
@@ -94,7 +94,7 @@ pub(crate) struct Tree<'b, 'a> {
 #[derive(Clone, Copy, Debug)]
 pub(crate) struct Components<'b, 'a> {
     pub(crate) html: bool,
-    /// Six markers in one word, where they are not the usual ones.
+    /// Six markers in one word, if they are not the usual ones.
     pub(crate) markers: Option<&'a str>,
     pub(crate) files: Option<&'b [&'a str]>,
     pub(crate) common: Common<'b, 'a>,
@@ -103,13 +103,13 @@ pub(crate) struct Components<'b, 'a> {
 #[derive(Clone, Copy, Debug)]
 pub(crate) struct Format<'b, 'a> {
     pub(crate) mode: Mode,
-    /// Six markers in one word, where they are not the usual ones.
+    /// Six markers in one word, if they are not the usual ones.
     pub(crate) markers: Option<&'a str>,
     pub(crate) files: Option<&'b [&'a str]>,
     pub(crate) common: Common<'b, 'a>,
 }
 
-/// What is done with a layout.
+/// What to do with a layout.
 #[derive(Clone, Copy, Debug, PartialEq, Eq)]
 pub(crate) enum Mode {
     Write,
@@ -118,7 +118,7 @@ pub(crate) enum Mode {
 }
 
 impl<'b, 'a> Job<'b, 'a> {
-    /// What the matches of `options::command` ask.
+    /// What the matches of `options::command` ask for.
     pub(crate) fn of(matches: &'b ArgMatches<'a>) -> Option<Job<'b, 'a>>
         ensures { option_map job_view result
             ≡ option_and_then job_of (subcommand_rows_of matches.now) }
@@ -148,7 +148,7 @@ impl<'b, 'a> Job<'b, 'a> {
         }
     }
 
-    /// The same, with what a file of settings says where no option says otherwise.
+    /// The same job, with what a file of settings says for all that no option sets.
     #[tactic(auto, using(crate::proofs::Defaults::or_map))]
     pub(crate) fn with(self, defaults: Defaults<'b, 'a>) -> Job<'b, 'a>
         ensures { job_view result ≡ with_defaults defaults.entry (job_view self.entry) }
@@ -243,7 +243,7 @@ fn check_in<'b, 'a>(found: &'b ArgMatches<'a>) -> Check<'b, 'a>
     }
 }
 
-// Options set no rule.
+// No option sets a rule.
 fn none_set<'b, 'a>() -> &'b [RuleLevel<'a>]
     ensures { result.now ≡ [] }
 {
@@ -326,7 +326,7 @@ fn colours_named(word: Option<&str>) -> Colours
     }
 }
 
-// Where both are asked, the difference is shown.
+// If both are asked for, the difference is shown.
 fn mode_in(found: &ArgMatches<'_>) -> Mode
     ensures { result ≡ mode_of (rows_of (found_of found.now)) }
 {

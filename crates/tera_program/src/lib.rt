@@ -4,11 +4,11 @@
 //! It depends on `clap` for the command line, on `tera_files` for files, on `settings_files` for settings, and on
 //! `tera_report` and `terminal_text` for its output.
 //!
-//! In the order of reading: `options`, the words; `job`, what they ask; `status`, how it ends; `colours` and `output`;
-//! `settings`, what a file of settings says; `excluded` and `reading`, the templates; `site`, their names in a site;
-//! `found`, `helps`, `forms` and `reporting`, what is found in them, counted and as text; `counting`, the last line;
-//! `fixing`, what is put right in files; `plan` and `markers`, what a file becomes; `sending`, the messages to an editor;
-//! then a module for each subcommand.
+//! In the order of reading: `options`, the words; `job`, what they ask for; `status`, how it ends; `colours` and
+//! `output`; `settings`, what a file of settings says; `excluded` and `reading`, the templates; `site`, their names in
+//! a site; `found`, `helps`, `forms` and `reporting`, what is found in them, counted and as text; `counting`, the
+//! summary line; `fixing`, corrections in files; `plan` and `markers`, for the formatter; `sending`, the messages to an
+//! editor; then a module for each subcommand.
 #![tactic(auto)]
 
 mod aside;
@@ -52,9 +52,9 @@ use std::rt::{Env, Files};
 use std::{env, io};
 use tera_check::Registered;
 
-/// Does what the arguments of the process ask, and answers the status that it ends with: 0 where nothing but warnings
-/// was found and all was done, 1 where an error was found, or under `--check` or `--diff` a file that would change, and
-/// 2 where not all could be done or reported.
+/// Does what the arguments of the process ask for, and returns the status: 0 if all was done and nothing but warnings
+/// was found; 1 if an error was found, or with `--check` or `--diff` a file that would change; 2 if not all could be
+/// done or reported.
 pub fn run<R: Files + Env + Input + Print + Eprint + AllocGlobal + Clone + Drop>(
     rt: &R,
     terminals: Terminals,
@@ -100,7 +100,7 @@ fn run_words<R: Files + Env + Input + Print + Eprint + AllocGlobal + Clone + Dro
     }
 }
 
-// Reports the error of the words, or the text that they ask for, and answers the status.
+// Prints the error of the words, or the text that they ask for, and returns the status.
 fn print_answer<R: Print + Eprint + AllocGlobal>(rt: &R, error: &Error) -> u8
     ensures { result ≤ 2 }
 {
@@ -117,7 +117,7 @@ fn print_answer<R: Print + Eprint + AllocGlobal>(rt: &R, error: &Error) -> u8
     }
 }
 
-// What the words ask, done. An error is that of the words, or a text that they ask for.
+// Does what the words ask for. The error is one of the words, or a text that they ask for.
 fn done<R: Files + Env + Input + Print + Eprint + AllocGlobal + Clone + Drop>(
     rt: &R,
     terminals: Terminals,

@@ -1,4 +1,4 @@
-//! Markers between which files are read and laid out.
+//! The markers with which files are read and formatted.
 
 ghost use Rattle.std.specs.Prelude.{◌≡◌, IfOk, IfSome, true};
 ghost use Rattle.tera_layout.specs.Steady.{is_steady};
@@ -12,19 +12,19 @@ use tera_layout::are_steady;
 use tera_parser::lexer::Delimiters;
 use tera_parser::value::{Error, ErrorKind};
 
-/// Why nothing is read or laid out between some markers.
+/// Why some markers cannot be used.
 #[derive(Drop)]
 pub(crate) enum Unfit {
     Memory,
-    /// They are not six.
+    /// There are not six.
     Number,
-    /// They break a rule, which is reported.
+    /// They break a rule, which the error reports.
     Rule(Error),
     /// A layout might put or take away the end of a tag.
     Unsteady,
 }
 
-/// The six markers that these words are, if files can be laid out between them; the default ones without them.
+/// The six markers in these words, if files can be formatted with them; without words, the default ones.
 pub(crate) fn steady_markers_of(alloc: Global, words: Option<&str>) -> Result<Delimiters, Unfit>
     ensures { IfOk result (λ d. IsValid (marks_of d) × (is_steady (marks_of d) ≡ true)) }
 {
@@ -36,7 +36,7 @@ pub(crate) fn steady_markers_of(alloc: Global, words: Option<&str>) -> Result<De
     }
 }
 
-/// The six markers that these words are, where they are not the default ones.
+/// The six markers in these words, if they are not the default ones.
 pub(crate) fn other_markers_of(
     alloc: Global,
     words: Option<&str>,
@@ -51,7 +51,7 @@ pub(crate) fn other_markers_of(
     }
 }
 
-/// The six markers that these words are; the default ones without them.
+/// The six markers in these words; without words, the default ones.
 pub(crate) fn markers_of(alloc: Global, words: Option<&str>) -> Result<Delimiters, Unfit>
     ensures { IfOk result (λ d. IsValid (marks_of d)) }
 {
@@ -97,7 +97,7 @@ fn next_of(alloc: Global, parts: &mut SplitWhitespace<'_>) -> Result<CowStr<'sta
     }
 }
 
-/// Says on standard error why nothing is read or laid out.
+/// Says on standard error why the markers cannot be used.
 pub(crate) fn print_unfit<R: Eprint + AllocGlobal>(rt: &R, why: &Unfit) {
     match option_error(rt.alloc(), why) {
         Ok(why) => print_error(rt, "tera", why.as_str()),
@@ -110,7 +110,7 @@ fn option_error(alloc: Global, why: &Unfit) -> Result<String, AllocError> {
     format!(in alloc; "--markers: {why}")
 }
 
-/// Why nothing is read or laid out, in words.
+/// Why the markers cannot be used, in words.
 pub(crate) fn why_unfit(alloc: Global, why: &Unfit) -> Result<String, AllocError> {
     match why {
         Unfit::Memory => Err(AllocError),

@@ -5,7 +5,7 @@ use clap::{Arg, ArgAction, Command};
 use std::alloc::{AllocError, Global};
 use tera_server::VERSION;
 
-/// How many syntax errors of a file are reported, where nothing else is asked for.
+/// How many syntax errors of a file are reported, if nothing else is asked for.
 const MAX_FAULTS: &str = "100";
 
 /// How the names of templates end in a folder.
@@ -259,7 +259,7 @@ fn server<'a>(alloc: Global) -> Result<Command<'a>, AllocError> {
         ))
 }
 
-// What is reported for the files, by each command that reads several.
+// Adds the options of each command that reads several files.
 fn with_files<'a>(alloc: Global, command: Command<'a>) -> Result<Command<'a>, AllocError> {
     command
         .arg(stdin_filename(alloc))?

@@ -1,4 +1,4 @@
-//! What is written beside the answer.
+//! Lines of errors, and other text for standard output and standard error.
 
 ghost use Rattle.std.specs.Prelude.{◌≡◌, ◌++◌, ℕ, IfOk, OnOk, string_bytes};
 ghost use Rattle.tera_files.specs.declared.reading.Unread.TheVariants.{NotUtf8};
@@ -13,7 +13,7 @@ use std::io::Write;
 use tera_files::{Unread, Unwritten};
 use terminal_text::{Style, difference};
 
-/// The line that says what went wrong with a file: `FILE: error: WHY`.
+/// The line about what went wrong with a file: `FILE: error: WHY`.
 pub(crate) fn error_line(alloc: Global, file: &str, why: &str) -> Result<String, AllocError>
     ensures { IfOk result (λ line. string_bytes line ≡ error_line file.now why.now) }
 {
@@ -62,7 +62,8 @@ pub(crate) fn lines_for(
     Ok(safe)
 }
 
-/// The difference of two texts of a file: as it is for another program, and of what `lines_for` shows of them on a terminal.
+/// The difference of two texts of a file: exact for another program, and made from what `lines_for` shows of them on a
+/// terminal.
 pub(crate) fn difference_for(
     alloc: Global,
     style: Style,
@@ -86,13 +87,13 @@ pub(crate) fn difference_for(
     difference(alloc, style, file.as_str(), before.as_str(), after.as_str())
 }
 
-/// Writes the text to standard error. The answer is whether that went well.
+/// Writes the text to standard error. The result is whether that went well.
 pub(crate) fn put_error<R: Eprint>(rt: &R, text: &str) -> bool {
     eprint!(rt; "{text}").is_ok()
 }
 
-/// Says on standard error what went wrong with the file; with none, where `tera` is in its place. The status is 2 then,
-/// also where standard error takes nothing.
+/// Says on standard error what went wrong with the file. If there is none, it is named `tera`. The status is 2 then,
+/// even if standard error takes nothing.
 pub(crate) fn print_error<R: Eprint + AllocGlobal>(rt: &R, file: &str, why: &str) {
     let _ = match error_line(rt.alloc(), file, why) {
         Ok(line) => put_error(rt, line.as_str()),
@@ -137,7 +138,7 @@ fn why_unwritten(alloc: Global, why: Unwritten) -> Result<String, AllocError> {
     }
 }
 
-/// Says on standard error why not all was written to standard output, unless nobody reads any more.
+/// Says on standard error why not all was written to standard output, unless the reader has closed it.
 pub(crate) fn print_stopped<R: Eprint + AllocGlobal>(rt: &R, error: io::Error) {
     if error.kind() == io::ErrorKind::BrokenPipe {
         return;
@@ -148,7 +149,7 @@ pub(crate) fn print_stopped<R: Eprint + AllocGlobal>(rt: &R, error: io::Error) {
     }
 }
 
-/// Writes the text to standard output. The answer is whether that went well; where it did not, standard error says so.
+/// Writes the text to standard output. The result is whether that went well; if not, standard error says so.
 pub(crate) fn put<R: Print + Eprint + AllocGlobal>(rt: &R, text: &[u8]) -> bool {
     match io::writer(rt).write_all(text) {
         Ok(()) => true,

@@ -1,4 +1,4 @@
-//! What is to be done with a file that is laid out.
+//! What to do with a file that is formatted.
 
 ghost use Rattle.std.specs.Prelude.{◌≡◌, ⊤, ℕ, List, IfOk, IfErr, OnOk, MatchResult, Some, true, false};
 ghost use Rattle.tera_base.specs.Errors.{IsMemory};
@@ -20,17 +20,17 @@ use tera_parser::Parser;
 use tera_parser::lexer::Delimiters;
 use tera_parser::value::Error;
 
-/// What is to be done with a file.
+/// What to do with a file.
 #[derive(Debug, Drop)]
 pub enum Plan {
-    /// Nothing: it is laid out.
+    /// Nothing: it is formatted already.
     Same,
-    /// This text is to be written in its place.
+    /// This text is to replace the file's.
     Layout(String),
 }
 
-/// What is to be done with the file of this name and source, a template between the markers. What is not a template is
-/// refused, as [`Parser::parse`] does it, and stays as it is.
+/// What to do with the file of this name and source, between these markers. If it is not a template, the error is the
+/// one of [`Parser::parse`], and the file stays as it is.
 pub fn plan_of(alloc: Global, file: &str, source: &str, markers: &Delimiters) -> Result<Plan, Error>
     requires valid { IsValid (marks_of markers.now) }
     requires steady { is_steady (marks_of markers.now) ≡ true }
@@ -50,7 +50,7 @@ pub fn plan_of(alloc: Global, file: &str, source: &str, markers: &Delimiters) ->
     }
 }
 
-// Reads the source, of which only that it is a template is kept.
+// Parses the source, only to see whether it is a template.
 fn read(alloc: Global, file: &str, source: &str, markers: &Delimiters) -> Result<(), Error>
     requires valid { IsValid (marks_of markers.now) }
     ensures sound { OnOk result (IsTemplate (marks_of markers.now) source.now) }
@@ -65,7 +65,7 @@ fn read(alloc: Global, file: &str, source: &str, markers: &Delimiters) -> Result
     Ok(())
 }
 
-/// What is done with a file in the mode that is asked.
+/// What is done with a file in the mode that is asked for.
 #[derive(Clone, Copy, Debug)]
 pub(crate) enum Action<'a> {
     Nothing,
@@ -75,11 +75,11 @@ pub(crate) enum Action<'a> {
     Name,
     /// The difference of its text from this one goes to standard output.
     Difference(&'a str),
-    /// This text takes the place of that of the file, and then its name goes to standard output.
+    /// This text replaces the file's, and then the name of the file goes to standard output.
     Replace(&'a str),
 }
 
-/// What is done with a file, or with standard input, which is shown in place of being replaced.
+/// What is done with a file, or with standard input, which is shown instead of replaced.
 pub(crate) fn action_of<'a>(
     mode: Mode,
     is_input: bool,

@@ -1,4 +1,4 @@
-//! Templates that are read.
+//! Reading templates.
 
 ghost use Rattle.std.specs.Prelude.{◌≡◌, ◌++◌, ℕ, List, IfOk, IfSome, OnOk, codes, string_bytes};
 ghost use Rattle.tera_lexer.specs.grammar.Marks.{IsValid, marks_of};
@@ -18,26 +18,26 @@ use tera_parser::lexer::Delimiters;
 use tera_site::SiteNames;
 use terminal_text::Sources;
 
-/// Templates, beside the sources that they were read from.
+/// Templates, with the sources that they were read from.
 #[derive(Drop)]
 pub(crate) struct Templates {
     pub(crate) templates: Vec<Template>,
-    /// These are empty where they are not wanted.
+    /// The sources; empty, if they are not needed.
     pub(crate) sources: Vec<Source>,
-    /// How many of the templates are those that were asked for; after these are those of the library.
+    /// How many of the templates were asked for; those of the library come after them.
     pub(crate) checked: usize,
     /// What could not be read.
     pub(crate) unread: Vec<Unreadable>,
-    /// The names of the templates, where they are those of a site.
+    /// The names of the templates, if they are those of a site.
     pub(crate) names: Option<SiteNames>,
 }
 
 /// How templates are read.
 #[derive(Debug, Drop)]
 pub(crate) struct Reading {
-    /// The markers, where they are not the usual ones.
+    /// The markers, if they are not the usual ones.
     pub(crate) markers: Option<Delimiters>,
-    /// How many faults of each are looked for, between the usual markers. Between others only the first is.
+    /// How many faults of each are looked for with the usual markers. With others only the first is.
     pub(crate) faults: usize,
     /// Whether the sources are kept.
     pub(crate) keeps_sources: bool,
@@ -47,7 +47,7 @@ pub(crate) struct Reading {
 #[derive(Drop)]
 pub(crate) struct Unreadable {
     pub(crate) file: String,
-    /// Why, as the forms for other programs have it.
+    /// Why, in the words of the forms for other programs.
     pub(crate) why: String,
 }
 
@@ -74,7 +74,7 @@ impl Templates {
         Ok(texts)
     }
 
-    /// Leaves their memory to the process, which ends soon: to give it back tree by tree takes a tenth of the instructions.
+    /// Leaves their memory to the process, which ends soon: to free it tree by tree takes a tenth of all instructions.
     pub(crate) fn forget(self) {
         mem::forget(self);
     }
@@ -88,7 +88,7 @@ impl Templates {
     }
 }
 
-/// The source alone.
+/// Only this source.
 pub(crate) fn text_of(alloc: Global, source: &Source) -> Result<Sources<'_>, AllocError>
     ensures { IfOk result (λ sources. (file : List ℕ) → source_of sources file
         ≡ with_source nothing source.now file) }
@@ -103,7 +103,7 @@ pub(crate) fn name_of<'a>(file: &'a str, stdin: &'a str) -> &'a str {
     if file == "-" { stdin } else { file }
 }
 
-/// The files that the paths mean, without those that are left out.
+/// The files that the paths lead to, without those that are left out.
 pub(crate) fn found<R: Files + AllocGlobal + Clone + Drop>(
     rt: &R,
     common: Common<'_, '_>,
@@ -140,7 +140,7 @@ pub(crate) fn without_point(extension: &str) -> &str {
     extension.strip_prefix('.').unwrap_or(extension)
 }
 
-/// Says on standard error which folders cannot be listed, or hold no template.
+/// Says on standard error which folders cannot be listed, or contain no template.
 pub(crate) fn print_unlisted<R: Eprint + AllocGlobal>(
     rt: &R,
     common: Common<'_, '_>,
@@ -164,7 +164,7 @@ fn why_unlisted(
     }
 }
 
-// That no template was found, and what was looked for.
+// The text that no template was found, and what was looked for.
 fn without_templates(alloc: Global, common: Common<'_, '_>) -> Result<String, AllocError> {
     let extensions = extensions_of(alloc, common)?;
     if extensions.is_empty() {
@@ -181,7 +181,7 @@ fn without_templates(alloc: Global, common: Common<'_, '_>) -> Result<String, Al
     Ok(why)
 }
 
-/// Reads the templates that the paths mean, and after them those of the library that are not among these. Standard
+/// Reads the templates that the paths lead to, and after them those of the library that are not among these. Standard
 /// error says which cannot be read.
 pub(crate) fn read_all<R: Files + Input + Eprint + AllocGlobal + Clone + Drop>(
     rt: &R,
@@ -226,7 +226,7 @@ fn add_unlisted(
     Ok(())
 }
 
-// Says on standard error why a file cannot be read, and adds it to those.
+// Says on standard error why a file cannot be read, and adds it to the unread ones.
 fn refuse<R: Eprint + AllocGlobal>(
     rt: &R,
     name: &str,
@@ -251,8 +251,8 @@ fn cannot_be_read(alloc: Global, why: &str) -> Result<String, AllocError>
     Ok(text)
 }
 
-// The files of the paths, and after them those of the library; and how many the former are. A file of both is met first
-// among the former.
+// The files of the paths, and after them those of the library; and how many come from the paths. A file of both counts
+// as one of the paths.
 fn found_with<R: Files + AllocGlobal + Clone + Drop>(
     rt: &R,
     common: Common<'_, '_>,
@@ -286,7 +286,7 @@ fn add<R: Files + Input + AllocGlobal>(
     Ok(add_source(rt.alloc(), source, reading, all)?)
 }
 
-// Reads the template of a source, and puts it after the others; the source too, where it is kept.
+// Reads the template of a source, and puts it after the others; also the source, if it is kept.
 fn add_source(
     alloc: Global,
     source: Source,

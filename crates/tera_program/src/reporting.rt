@@ -1,4 +1,4 @@
-//! What is found in templates, written.
+//! Writing what is found in templates.
 
 ghost use Rattle.std.specs.Prelude.{◌≡◌, IfOk, OnErr, OnOk, map};
 ghost use Rattle.std.specs.Io.KnownBytes.{Keeps};
@@ -32,14 +32,14 @@ pub(crate) struct Report {
     pub(crate) errors: bool,
     /// How many findings there are.
     pub(crate) findings: usize,
-    /// In how many templates.
+    /// How many templates have one.
     pub(crate) faulty: usize,
     /// Why not all was written.
     pub(crate) stopped: Option<io::Error>,
 }
 
-/// Writes the text of what could not be read, and of all that is found in the templates and is to be reported. Of those
-/// after the first `checked` only faults are. Nothing is written before the whole text is ready.
+/// Writes the text of what could not be read, and of all that is found in the templates and is to be reported. For
+/// those after the first `checked` only faults are. Nothing is written before the whole text is ready.
 pub(crate) fn write_findings<'t, W: Write>(
     alloc: Global,
     writer: &mut W,
@@ -80,8 +80,8 @@ pub(crate) fn write_findings<'t, W: Write>(
     })
 }
 
-// What is found in each template: of itself and its components; of names, and of what the program registers, where these
-// are known; and of components that no template calls, where these are looked for.
+// What is found in each template: in itself and of its components; of names, and of what the program registers, if
+// these are known; and of components that no template calls, if these are looked for.
 fn found_in<'a>(
     alloc: Global,
     unread: &Vec<Unreadable>,
@@ -135,8 +135,8 @@ fn add_if_registered(
     }
 }
 
-// Whether components that no template calls are looked for: their rule is on, and each file could be read. One that could
-// not may call any.
+// Whether components that no template calls are looked for: their rule is on, and all files could be read. A file that
+// could not be read may call any.
 fn looks_for_unused(unread: &Vec<Unreadable>, levels: Levels<'_, '_>) -> bool
     ensures { result ≡ looks_for_unused (map unreadable_view unread.now.items)
         (level_of levels.entry) }

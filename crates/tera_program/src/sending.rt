@@ -1,4 +1,4 @@
-//! Messages that are sent.
+//! Sending messages.
 
 ghost use Rattle.std.specs.Prelude.{◌≡◌, ◌<◌, length, Some, slice_get, OnOk, OnErr};
 ghost use Rattle.std.specs.Io.KnownBytes.{Appends};
@@ -14,7 +14,7 @@ use std::io;
 use std::io::Write;
 use tera_show::write_all;
 
-/// Writes the messages that are to be sent, each after its header, in their order; then nothing is to be sent.
+/// Writes the messages that are to be sent, each after its header, in their order. After that nothing is to be sent.
 pub(crate) fn send<W: Write>(alloc: Global, writer: &mut W, out: &mut Outbox) -> io::Result<()>
     ensures written { OnOk result (Appends (W.contents writer.old) (W.contents writer.new) (flat_map frame out.old.sent)) }
     ensures sent { OnOk result (out.new ≡ nothing) }

@@ -35,35 +35,35 @@ use std::{fs, io};
 use tera_files::{Found, Selection, Unread, ends_in, files_of, read_source};
 use tera_server::{Ended as Finished, FoundSettings, Needed, OnDisk, Server};
 
-// How the messages that came left the exchange.
+// The state of the exchange after the messages that came.
 #[derive(Clone, Copy)]
 pub(crate) enum Left {
     /// One of them ended it.
     Ended(Finished),
-    /// No whole message is left. What was asked for was given, and what is found is published.
+    /// No whole message is left. What was asked for was given, and findings were published.
     AtRest,
-    /// No whole message is left, and a part of that failed to allocate: it is done the next time.
+    /// No whole message is left, but giving or publishing failed to allocate. It is done the next time.
     Short,
 }
 
-// How an exchange was.
+// How an exchange went.
 #[derive(Clone, Copy)]
 struct Served {
     finished: Finished,
-    // Whether a part of what was to be given or published failed to allocate, and had to wait.
+    // Whether giving or publishing something failed to allocate, and had to wait.
     short: bool,
 }
 
-// How many bytes a message may have.
+// The most bytes of a message.
 const LONGEST: usize = 0x1000_0000;
 
 // How many bytes are read at once.
 const PIECE: usize = 0x1_0000;
 
-// How many bytes a file may have to be read.
+// The most bytes of a file that is read.
 const LARGEST: u64 = 0x100_0000;
 
-/// Talks with an editor over standard input and output, until it ends that.
+/// Serves an editor over standard input and output, until it ends the exchange.
 pub(crate) fn run<R: Files + Input + Print + Eprint + AllocGlobal + Clone + Drop>(rt: &R) -> Ended {
     match serve(rt, &mut rt.reader(), &mut io::writer(rt)) {
         Ok(served) => {
@@ -91,7 +91,7 @@ fn why(error: &io::Error) -> &'static str {
     }
 }
 
-// Answers the messages that come from the reader, until one ends that, or the reader has no more.
+// Answers the messages that come from the reader, until one ends the exchange, or the reader has no more.
 fn serve<F: Files + Input + AllocGlobal + Clone + Drop, R: Read, W: Write>(
     files: &F,
     reader: &mut R,
@@ -120,7 +120,7 @@ fn serve<F: Files + Input + AllocGlobal + Clone + Drop, R: Read, W: Write>(
     Err(io::ErrorKind::Other.into())
 }
 
-// Reads what has come. The answer is false where nothing does any more.
+// Reads what has come. The result is false if nothing comes any more.
 fn take_piece<R: Read>(reader: &mut R, piece: &mut Vec<u8>, frames: &mut Frames) -> io::Result<bool>
     requires { 0 < length piece.old.items }
     ensures limit { frames.new.limit ≡ frames.old.limit }
@@ -135,7 +135,8 @@ fn take_piece<R: Read>(reader: &mut R, piece: &mut Vec<u8>, frames: &mut Frames)
     Ok(count > 0)
 }
 
-// Answers the messages that have come whole. After the last, what is asked for is given and what is found published.
+// Answers the messages that have come whole. After the last one, what is asked for is given, and findings are
+// published.
 fn answer_all<F: Files + Input + AllocGlobal + Clone + Drop, W: Write>(
     files: &F,
     server: &mut Server,
@@ -166,13 +167,13 @@ fn answer_all<F: Files + Input + AllocGlobal + Clone + Drop, W: Write>(
                 miss(alloc, server, writer, out)?;
             }
         }
-        // What fails to allocate is asked for again, and ends nothing.
+        // If this fails to allocate, it is asked for again, and the exchange goes on.
         let _given = give(files, server);
     }
     Err(io::ErrorKind::Other.into())
 }
 
-// There is no memory for a message.
+// An allocation for a message failed.
 fn miss<W: Write>(
     alloc: Global,
     server: &mut Server,
@@ -189,7 +190,7 @@ fn miss<W: Write>(
     Ok(())
 }
 
-// Takes what came, and writes what is sent of it.
+// Takes what came, and writes what is sent because of it.
 fn answer<W: Write>(
     alloc: Global,
     server: &mut Server,
@@ -225,7 +226,7 @@ fn take(alloc: Global, server: &mut Server, next: Frame, out: &mut Outbox) -> Op
     }
 }
 
-// What fails to allocate ends nothing.
+// Takes a message. If that fails to allocate, the exchange goes on.
 fn handle(
     alloc: Global,
     server: &mut Server,
@@ -241,7 +242,7 @@ fn handle(
     }
 }
 
-// Gives what is asked for still, and publishes what is found. What fails to allocate is done the next time.
+// Gives what is still asked for, and publishes findings. What fails to allocate is done the next time.
 fn come_to_rest<F: Files + Input + AllocGlobal + Clone + Drop, W: Write>(
     files: &F,
     server: &mut Server,
@@ -264,7 +265,7 @@ fn come_to_rest<F: Files + Input + AllocGlobal + Clone + Drop, W: Write>(
     }
 }
 
-// Publishes what is found, and writes it. The answer is whether memory was found for all of it.
+// Publishes findings, and writes them. The result is whether no allocation failed.
 fn settle<W: Write>(
     alloc: Global,
     server: &mut Server,
@@ -310,7 +311,7 @@ fn give<F: Files + Input + AllocGlobal + Clone + Drop>(
     Err(AllocError)
 }
 
-// What fails to allocate is asked for again.
+// Gives one thing that was asked for. If that fails to allocate, it is asked for again.
 fn give_or_ask_again<F: Files + Input + AllocGlobal + Clone + Drop>(
     files: &F,
     server: &mut Server,
@@ -343,7 +344,7 @@ fn give_needed<F: Files + Input + AllocGlobal + Clone + Drop>(
     }
 }
 
-// The settings that count for a folder, and then its files.
+// Gives the settings for a folder, and then its files.
 fn give_with_settings<F: Files + Input + AllocGlobal + Clone + Drop>(
     files: &F,
     server: &mut Server,
@@ -359,7 +360,7 @@ fn give_with_settings<F: Files + Input + AllocGlobal + Clone + Drop>(
     give_libraries(files, server, folder)
 }
 
-// A known file that is in no open folder and in no library has no text any more.
+// A known file that is in no open folder and in no library loses its text.
 fn give_apart<F: Files + Input + AllocGlobal>(
     files: &F,
     server: &mut Server,
@@ -384,7 +385,7 @@ fn apart(alloc: Global, server: &Server) -> Result<Vec<String>, AllocError> {
     Ok(apart)
 }
 
-// The templates of the libraries of the folder.
+// Gives the templates of the libraries of the folder.
 fn give_libraries<F: Files + Input + AllocGlobal + Clone + Drop>(
     files: &F,
     server: &mut Server,
@@ -414,7 +415,7 @@ fn libraries<F: Files + AllocGlobal + Clone + Drop>(
     }
 }
 
-// For a folder that is not open no settings count.
+// The settings for a folder; none, if it is not open.
 fn settings_of<F: Files + Input + AllocGlobal>(
     files: &F,
     server: &Server,
@@ -427,8 +428,8 @@ fn settings_of<F: Files + Input + AllocGlobal>(
     }
 }
 
-// What is under a path now: a folder, a file or nothing. If it may be a file of settings, the folders that are open are
-// asked for again.
+// Gives what is under a path now: a folder, a file or nothing. If the path may be a file of settings, the open folders
+// are asked for again.
 fn give_changed<F: Files + Input + AllocGlobal + Clone + Drop>(
     files: &F,
     server: &mut Server,
@@ -447,7 +448,7 @@ fn give_changed<F: Files + Input + AllocGlobal + Clone + Drop>(
     }
 }
 
-// A file that was not known and has not the name of a template is passed over.
+// Gives a file, unless it was not known and does not have the name of a template.
 fn give_template<F: Files + Input + AllocGlobal>(
     files: &F,
     server: &mut Server,
@@ -463,7 +464,7 @@ fn give_template<F: Files + Input + AllocGlobal>(
     }
 }
 
-// A file that was known is gone, or what may have been a folder.
+// Takes that a known file, or what may have been a folder, is gone.
 fn give_gone<F: Files + Input + AllocGlobal>(
     files: &F,
     server: &mut Server,
@@ -505,13 +506,13 @@ fn is_needed(alloc: Global, server: &Server, path: &str) -> Result<bool, AllocEr
     is_named_so(alloc, server, path)
 }
 
-// Whether the file has the name of a template, by the settings that count for it.
+// Whether the file has the name of a template, by the settings for it.
 fn is_named_so(alloc: Global, server: &Server, path: &str) -> Result<bool, AllocError> {
     let extensions = extensions_for(alloc, server, path)?;
     Ok(ends_in(path, extensions.as_slice()))
 }
 
-// How the names of templates end, by the settings that count for a file or a folder.
+// The extensions of templates, by the settings for a file or a folder.
 fn extensions_for<'s>(
     alloc: Global,
     server: &'s Server,
@@ -538,7 +539,7 @@ fn extensions_given<'s>(server: &'s Server, path: &str) -> Option<&'s Vec<String
     server.settings_for(path)?.extensions.as_ref()
 }
 
-// Of a file that the reading of the folders leaves out no text is given.
+// Gives a file; without a text, if it is left out when the folders are read.
 fn give_single<F: Files + Input + AllocGlobal>(
     files: &F,
     server: &mut Server,
@@ -553,7 +554,7 @@ fn give_single<F: Files + Input + AllocGlobal>(
     give_file(files, server, path)
 }
 
-// No text is given of a file.
+// Gives a file without a text.
 fn give_nothing<F: Files + Input + AllocGlobal>(
     files: &F,
     server: &mut Server,
@@ -565,12 +566,12 @@ fn give_nothing<F: Files + Input + AllocGlobal>(
     server.load(files.alloc(), path, OnDisk::Nothing)
 }
 
-// Whether the reading of the folders leaves the file out, and it is in no library.
+// Whether the file is left out when the folders are read, and is in no library.
 fn is_aside<F: Files + AllocGlobal>(files: &F, server: &Server, path: &str) -> bool {
     is_left_out(files, server.folders(), path) && !server.is_in_library(path)
 }
 
-// Whether the settings that count for the file leave it out.
+// Whether the settings for the file leave it out.
 fn is_excluded_in<F: Files + AllocGlobal>(
     files: &F,
     server: &Server,
@@ -585,7 +586,7 @@ fn is_excluded_in<F: Files + AllocGlobal>(
     }
 }
 
-// Gives each file in the folder that is known again, and those that are there, if the folder is in one that is open.
+// Gives each known file in the folder again, and the files that are there, if the folder is in an open one.
 fn give_folder<F: Files + Input + AllocGlobal + Clone + Drop>(
     files: &F,
     server: &mut Server,
@@ -602,7 +603,7 @@ fn give_folder<F: Files + Input + AllocGlobal + Clone + Drop>(
     }
 }
 
-// The files in the folder that are known, as they are now.
+// Gives the known files in the folder, as they are now.
 fn give_known<F: Files + Input + AllocGlobal>(
     files: &F,
     server: &mut Server,
@@ -618,8 +619,8 @@ fn give_known<F: Files + Input + AllocGlobal>(
     Ok(())
 }
 
-// A file that was known. Of one that is in no open folder, or does not have the name of a template any more, no text
-// is given.
+// Gives a file that was known; without a text, if it is in no open folder, or does not have the name of a template any
+// more.
 fn give_again<F: Files + Input + AllocGlobal>(
     files: &F,
     server: &mut Server,
@@ -661,7 +662,7 @@ fn give_files<F: Files + Input + AllocGlobal>(
     Ok(())
 }
 
-// The templates that the paths mean by the settings of the folder, and that these do not leave out.
+// The templates that the paths lead to, by the settings of the folder, without those that these leave out.
 fn listed<F: Files + AllocGlobal + Clone + Drop>(
     files: &F,
     server: &Server,
@@ -698,7 +699,7 @@ fn give_file<F: Files + Input + AllocGlobal>(
     server.load(files.alloc(), path, found)
 }
 
-// A pipe or a device is never read, nor what is too large.
+// What is on disk under the path. A pipe, a device and a file that is too large are never read.
 fn on_disk<F: Files + Input + AllocGlobal>(files: &F, path: &str) -> Result<OnDisk, AllocError> {
     let alloc = files.alloc();
     match fs::metadata(files, path) {
@@ -713,7 +714,7 @@ fn on_disk<F: Files + Input + AllocGlobal>(files: &F, path: &str) -> Result<OnDi
     }
 }
 
-// What is not there is no file that cannot be read.
+// What is on disk if a file could not be read for this reason: nothing, if it does not exist.
 fn unread_by(alloc: Global, why: Unread) -> Result<OnDisk, AllocError>
     ensures none { IfOk result (λ found. text_on found ≡ None) }
     ensures not_utf8 { (at : ℕ) → why ≡ NotUtf8 at → IfOk result (IsUnread (not_utf8 at)) }

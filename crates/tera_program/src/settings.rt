@@ -26,7 +26,7 @@ use tera_check::{Registered, RuleLevel, Severity};
 use tera_server::{FolderSettings, FoundSettings, Reason, RuleSetting};
 use tera_settings::{Known, Level, Settings};
 
-/// What a file of settings says. All is absent if there is none.
+/// What a file of settings says. Everything is absent if there is no file.
 #[derive(Drop)]
 pub(crate) struct Site {
     root: Option<String>,
@@ -38,7 +38,7 @@ pub(crate) struct Site {
     known: Known,
 }
 
-/// The same, as the options of a job have it.
+/// The same, in the form of the options of a job.
 #[derive(Drop)]
 pub(crate) struct Words<'s> {
     root: Option<&'s str>,
@@ -98,8 +98,8 @@ impl<'s> Words<'s> {
         }
     }
 
-    /// The names that the program registers, where they are known. They are not a part of the defaults, as a set has one
-    /// lifetime, and those of a job and of settings are two.
+    /// The names that the program registers, if they are known. They are not a part of the defaults, as a set has one
+    /// lifetime, and a job and its settings have two.
     pub(crate) fn registered(&self) -> Option<&Registered<'s>>
         ensures { registered_if_any result ≡ option_map registered_view self.now.registered }
     {
@@ -213,7 +213,7 @@ fn list_of(list: &Option<Vec<String>>) -> Option<&[String]>
     }
 }
 
-/// What the file of settings says that counts for the job.
+/// What the file of settings for the job says.
 pub(crate) fn site_of<R: Files + Input + AllocGlobal>(
     rt: &R,
     job: &Job<'_, '_>,
@@ -303,7 +303,7 @@ fn if_any(texts: Vec<String>) -> Option<Vec<String>>
     if texts.is_empty() { None } else { Some(texts) }
 }
 
-// The markers, as `--markers` would have them.
+// Checks the markers as for `--markers`.
 fn check_markers(alloc: Global, is_laid_out: bool, file: &Configured) -> Result<(), Unfit> {
     let Some(markers) = &file.settings.markers else {
         return Ok(());
@@ -324,7 +324,7 @@ fn why_not_markers(alloc: Global, is_laid_out: bool, markers: &str) -> Option<ma
     }
 }
 
-// What the rules are set to, as a server has it.
+// What the rules are set to, in the form of a server.
 fn rules_of(
     alloc: Global,
     rules: &[tera_settings::RuleLevel],
@@ -342,7 +342,7 @@ fn rules_of(
     Ok(set)
 }
 
-/// What counts for the templates in a folder: the settings of the nearest file in it or above it.
+/// The settings for the templates in a folder: those of the nearest file in it or above it.
 pub(crate) fn found_for_folder<R: Files + Input + AllocGlobal>(
     rt: &R,
     folder: &str,
@@ -366,7 +366,7 @@ fn found_in<R: Files + AllocGlobal>(rt: &R, file: Configured) -> Result<FoundSet
     }
 }
 
-// That its templates are not read between their markers, where these are not the usual ones.
+// The reason that the templates are not read, if their markers are not the usual ones.
 fn why_unread_between(alloc: Global, file: &Configured) -> Result<Option<Reason>, AllocError> {
     if !has_other_markers(alloc, &file.settings)? {
         return Ok(None);
@@ -381,7 +381,7 @@ fn why_unread_between(alloc: Global, file: &Configured) -> Result<Option<Reason>
     }
 }
 
-// Whether they are six that can be used, and not the usual ones.
+// Whether the markers can be used, and are not the usual ones.
 fn has_other_markers(alloc: Global, settings: &Settings) -> Result<bool, AllocError> {
     let Some(words) = &settings.markers else {
         return Ok(false);
@@ -435,7 +435,7 @@ fn or_empty(alloc: Global, texts: Option<Vec<String>>) -> Vec<String>
     }
 }
 
-// The paths by which the system knows these, except where it knows none.
+// The paths by which the system knows these files, without those that it does not know.
 fn known_paths<R: Files + AllocGlobal>(
     rt: &R,
     paths: &Vec<String>,
@@ -463,7 +463,7 @@ fn without_points(
     Ok(Some(extensions))
 }
 
-// Why no settings can be had.
+// What is reported if there are no settings for this reason.
 fn wrong_for<R: Files + AllocGlobal>(rt: &R, why: Unfit) -> Result<FoundSettings, AllocError> {
     match why {
         Unfit::Memory => Err(AllocError),
@@ -487,7 +487,7 @@ fn wrong_for<R: Files + AllocGlobal>(rt: &R, why: Unfit) -> Result<FoundSettings
     }
 }
 
-// What is wrong, at a line that is counted from 0, and how grave it is.
+// What is wrong, with its line counted from 0, and this severity.
 fn reason_of(wrong: WrongFile, severity: Severity) -> Reason
     ensures line { result.line ≡ Some (wrong.line - 1) }
     ensures severity { result.severity ≡ severity }
@@ -500,7 +500,7 @@ fn reason_of(wrong: WrongFile, severity: Severity) -> Reason
     }
 }
 
-// The path from the top of the system, of one that is from the folder in which the program runs.
+// The absolute path of one that is relative to the folder in which the program runs.
 fn whole_path<R: Files + AllocGlobal>(rt: &R, path: &str) -> Result<String, AllocError> {
     match itself_of(rt, ".")? {
         Some(here) => Ok(

@@ -11,8 +11,8 @@ use std::{fs, io};
 use tera_check::Template;
 use tera_site::{SiteNames, used_names};
 
-/// The names of the templates below the root, by the paths by which the system knows their folders. A name that templates
-/// use, and that none of them has, is among the others unless it is known that there is no such file.
+/// The names of the templates below the root, by the paths by which the system knows their folders. A name that
+/// templates use and that none of them has is in `others`, unless it is known that there is no such file.
 pub(crate) fn names_below<R: Files + AllocGlobal>(
     rt: &R,
     root: &str,
@@ -85,7 +85,7 @@ fn below<'a>(root: &str, path: &'a str) -> Option<&'a str>
     }
 }
 
-// Adds the names that templates use, that none of them has, and of which there may be a file.
+// Adds the names that templates use, that none of them has, and that may be files.
 fn add_others<R: Files + AllocGlobal>(
     rt: &R,
     root: &str,
@@ -106,7 +106,7 @@ fn add_others<R: Files + AllocGlobal>(
     Ok(())
 }
 
-// Whether there may be a file of this name below the root: unless it is a folder, or it is known that there is none.
+// Whether there may be a file of this name below the root: not if it is a folder, or if it is known that there is none.
 fn may_be<R: Files + AllocGlobal>(rt: &R, root: &str, name: &str) -> Result<bool, AllocError> {
     if !is_name(name) {
         return Ok(false);
@@ -119,7 +119,7 @@ fn may_be<R: Files + AllocGlobal>(rt: &R, root: &str, name: &str) -> Result<bool
     }
 }
 
-// Whether a file below the root can have the name. `./a.html` and `/a.html` are paths of files, and are not names.
+// Whether a file below the root can have the name. `./a.html` and `/a.html` are paths of files, but not names.
 fn is_name(name: &str) -> bool {
     !name
         .split('/')

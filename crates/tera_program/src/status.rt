@@ -5,7 +5,7 @@ ghost use Rattle.tera_program.specs.Ends.{status_at};
 
 use tera_check::status;
 
-/// What was met while the job was done.
+/// What happened while the job was done.
 #[derive(Clone, Copy, Debug, PartialEq, Eq)]
 pub(crate) struct Ended {
     /// Whether something was found that is not a warning.
@@ -25,7 +25,7 @@ impl Ended {
         }
     }
 
-    /// The same, and a failure where standard error did not take what is said there.
+    /// The same, and a failure if standard error did not take what was written to it.
     pub(crate) fn unless_said(self, is_said: bool) -> Ended
         ensures { result ≡ record self { failed = self.failed || not is_said } }
     {
@@ -36,8 +36,8 @@ impl Ended {
     }
 }
 
-/// The status of the program: 2 where not all could be done or reported, or else 1 where something was found that is
-/// not a warning.
+/// The status of the program: 2 if not all could be done or reported, else 1 if something was found that is not a
+/// warning, else 0.
 pub(crate) fn status_of(ended: Ended) -> u8
     ensures { result ≡ status_at ended }
 {

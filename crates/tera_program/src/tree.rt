@@ -113,7 +113,7 @@ fn print_tree<R: Print + Eprint + AllocGlobal>(
     }
 }
 
-// As JSON it is for other programs, on a terminal too.
+// The text of the tree. JSON is exact on a terminal too, as it is for other programs.
 fn text_of_tree(alloc: Global, shape: Shape, output: &ParserOutput) -> Result<String, AllocError> {
     if !shape.json {
         return lines_of_tree(alloc, shape.is_terminal, output);
@@ -134,20 +134,20 @@ fn lines_of_tree(
     lines_for(alloc, is_terminal, tree_text(alloc, output)?)
 }
 
-// How many syntax errors of a source are reported beside a tree.
+// How many syntax errors of a source are reported with a tree.
 const MAX_FAULTS: usize = 100;
 
 // What is shown of a source, whatever faults it has.
 #[derive(Drop)]
 struct Shown {
-    // The tree. As JSON it has the faults too.
+    // The tree, which as JSON has the faults too.
     tree: Vec<u8>,
     // The faults, for people.
     faults: String,
     is_faulty: bool,
 }
 
-// Shows the tree of a source, whatever faults it has, and these.
+// Shows the tree of a source, whatever faults it has, and the faults.
 fn print_with_faults<R: Print + Eprint + AllocGlobal>(
     rt: &R,
     style: Style,
@@ -202,7 +202,7 @@ fn usual_template(alloc: Global, source: &Source) -> Result<Template, AllocError
     Ok(template)
 }
 
-// Of its faults only the first is known.
+// The template with other markers. Only its first fault is known.
 fn template_between(
     alloc: Global,
     markers: Delimiters,
@@ -216,7 +216,7 @@ fn template_between(
     Ok(template)
 }
 
-// What is shown of the template that was read of a source.
+// What is shown of the template that was read from a source.
 fn shown_of(
     alloc: Global,
     style: Style,
@@ -242,7 +242,7 @@ fn shown_of(
     })
 }
 
-// The lines of the tree, where there is one.
+// The lines of the tree, if there is one.
 fn lines_if_any(alloc: Global, is_terminal: bool, template: &Template) -> Result<String, AllocError>
     ensures { IfOk result (λ t. string_bytes t
         ≡ tree_lines is_terminal (option_map output_view (tree_of template.now))) }
@@ -253,7 +253,7 @@ fn lines_if_any(alloc: Global, is_terminal: bool, template: &Template) -> Result
     }
 }
 
-// The texts of faults of a source, one after another.
+// The texts of the faults of a source, one after another.
 fn faults_text(
     alloc: Global,
     style: Style,
