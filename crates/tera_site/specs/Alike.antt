@@ -23,7 +23,7 @@ top_block _ = []
 abbrev pub blocks_used : Output → List (List ℕ)
 blocks_used o = flat_map top_block o.nodes ++ flat_map block_around (placed_parts_of o)
 
--- what is around a tree makes no difference: both agree under the names that it uses
+-- two surroundings of a tree agree under the names that it uses
 pub record AgreeAround (o : Output) (a b : AroundVal) : Type 0 where
   pub parent : AllByRecursion (λ n. a.has n ≡ b.has n) (if_any o.parent)
   pub includes : AllByRecursion (λ n. (a.has n ≡ b.has n) × (a.comes_back n ≡ b.comes_back n)) (flat_map included_at (placed_parts_of o))

@@ -31,7 +31,7 @@ abbrev pub block_name : PartVal → List (List ℕ)
 block_name (NodePart (Block name span body)) = name ∷ []
 block_name _ = []
 
--- words that a text may have lost with a block, or with a template that it extends
+-- a word of a block, or `extends`, was lost: so a block, or the template that it extends, may be missing
 abbrev pub lost_any : Mended → Bool
 lost_any m = is_lost m (codes "block") || (is_lost m (codes "endblock") || is_lost m (codes "extends"))
 
