@@ -30,7 +30,7 @@ mark_of (FoundAs kind severity span text notes) = mark_by kind span
 abbrev pub is_written : Mended → FindingVal → Bool
 is_written m f = is_same_part (string_bytes m.source) (string_bytes m.text) (mark_of f)
 
--- where the definition ends that a byte of the text is in: at the next word that ends one, or with the text
+-- the end of the definition that contains a byte of the text: the next word that ends one, or the end of the text
 abbrev pub end_of_definition : Mended → ℕ → ℕ
 end_of_definition m start = unwrap_or (find (λ at. nat_le start at) (keys m.ends)) (length (string_bytes m.text))
 

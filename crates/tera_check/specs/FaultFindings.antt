@@ -20,7 +20,7 @@ use Rattle.tera_check.specs.declared.walk.Walk.{Walk}
 
 -- ---- what a fault comes of: a word of the source, and what is said of it
 
--- the text where a fault was met, if its tag has no end
+-- the text of the note where a fault was met, if its tag has no end
 abbrev pub met_text : List ℕ
 met_text = codes "met here, as the tag is not closed"
 

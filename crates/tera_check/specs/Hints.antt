@@ -24,7 +24,7 @@ begins_with front text = starts_with nat_eq text front
 abbrev pub ends_in : List ℕ → List ℕ → Bool
 ends_in end text = ends_with nat_eq (trim_end text) end
 
--- ---- for a tag whose word is not one of a tag
+-- ---- for a tag with an unknown word
 
 -- there is no word, or it is the word of a tag that may not be there
 abbrev pub is_known : List ℕ → Bool

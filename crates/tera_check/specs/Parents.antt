@@ -1,4 +1,4 @@
--- Where the name of the template is that a text extends.
+-- Where a text names the template that it extends.
 use Rattle.std.specs.Prelude.{◌≡◌, List, ℕ, Bool, true, false, if◌then◌else◌, codes, Option, None, Some}
 use Rattle.std.specs.Str.{bytes_eq}
 use Rattle.tera_base.specs.declared.utils.Span.{Span}

@@ -165,7 +165,7 @@ fn is_boundary(text: &str, at: usize) -> bool
     text.is_char_boundary(at)
 }
 
-// Where the definition ends that this byte is in.
+// The end of the definition that contains this byte.
 fn end_of_definition(mended: &Mended, start: usize) -> usize
     ensures { result ≡ end_of_definition mended.now start }
 {

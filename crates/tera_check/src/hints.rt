@@ -27,7 +27,7 @@ pub(crate) fn hint_in(message: &str, before: &str, there: &str) -> Option<&'stat
     None
 }
 
-// For a tag whose word is not one of a tag.
+// For a tag with an unknown word.
 fn hint_for_tag(word: &[u8]) -> Option<&'static str>
     ensures { option_map (λ h. h.now) result ≡ hint_for_tag word.now }
 {

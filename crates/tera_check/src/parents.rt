@@ -1,4 +1,4 @@
-//! Where the name of the template is that a text extends.
+//! Where a text names the template that it extends.
 
 ghost use Rattle.std.specs.Prelude.{◌≡◌, IfOk};
 ghost use Rattle.tera_lexer.specs.code.Seen.{seen};

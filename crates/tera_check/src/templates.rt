@@ -250,7 +250,7 @@ fn is_kept(source: &str, text: &str, ignore: &Ignore) -> bool
     is_same_part(source, text, ignore.span.range.start, ignore.span.range.end)
 }
 
-// Where the name of the template is that the text of this tree extends.
+// Where the text of this tree names the template that it extends.
 fn parent_if_any(
     alloc: Global,
     output: &ParserOutput,

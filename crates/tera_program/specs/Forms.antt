@@ -20,12 +20,12 @@ use Rattle.tera_program.specs.declared.job.Form.TheVariants as forms
 abbrev pub of_each : {A : Type 0} → (List ℕ → FindingVal → List A) → FoundVal → List A
 of_each of_one found = flat_map (of_one found.0) found.1
 
--- .. each with its suggestion, which is numbered from this number on
+-- .. each with its suggestion; the findings are counted from this number on
 abbrev pub each_from : (Option (List ℕ) → FindingVal → List ℕ) → (ℕ → Option (List ℕ)) → ℕ → List FindingVal → List ℕ
 each_from of_one help at [] = []
 each_from of_one help at (f ∷ fs) = of_one (help at) f ++ each_from of_one help (suc at) fs
 
--- .. in all files, which are numbered from this number on
+-- .. in all files, which are counted from this number on
 abbrev pub all_from : (List ℕ → Option (List ℕ) → FindingVal → List ℕ) → (ℕ → ℕ → Option (List ℕ)) → ℕ → List FoundVal → List ℕ
 all_from of_one help number [] = []
 all_from of_one help number (x ∷ xs) = each_from (of_one x.0) (help number) 0 x.1 ++ all_from of_one help (suc number) xs

@@ -15,7 +15,7 @@ use Rattle.tera_server.specs.declared.configuring.FoundSettings.TheVariants as f
 use Rattle.tera_server.specs.declared.notes.NeededKind.TheVariants.{Folder}
 use Rattle.tera_server.specs.declared.server.Server.{Server}
 
--- a document in a folder that has findings; or any document in it
+-- a document is in a folder and has findings; or any document in the folder
 abbrev pub is_due_inside : Workspace → List ℕ → Bool → List ℕ → Bool
 is_due_inside w folder all n = is_inside folder n && (all || not (length (reported_of_name w n) == 0))
 
