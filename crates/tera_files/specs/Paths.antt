@@ -1,14 +1,15 @@
 -- The paths of what is in folders.
 use Rattle.std.specs.Prelude.{◌≡◌, ◌≢◌, ◌⊎◌, ℕ, List, [], ◌++◌, codes}
-use Rattle.std.specs.Path.{path_join}
+use Rattle.std.specs.Path.{IsAbsolute, path_join}
 use Rattle.tera_files.specs.Names.{EndsIn, IsLeftOut}
 
--- How paths in a folder begin: with nothing for `.`, and else with the folder, without `./` at its start.
+-- How paths in a folder begin: with nothing for `.`, and else with the folder, without `./` at its start. The `./` stays where
+-- the rest would begin at the root of the system, as in `.//`.
 abbrev pub IsBase : List ℕ → List ℕ → Type 0
 IsBase folder base =
     ((folder ≡ codes ".") × (base ≡ []))
-    ⊎ ((folder ≡ codes "./" ++ base)
-    ⊎ ((base ≡ folder) × (folder ≢ codes ".") × ((rest : List ℕ) → folder ≢ codes "./" ++ rest)))
+    ⊎ (((folder ≡ codes "./" ++ base) × ¬ (IsAbsolute base))
+    ⊎ ((base ≡ folder) × (folder ≢ codes ".") × ((rest : List ℕ) → folder ≡ codes "./" ++ rest → IsAbsolute rest)))
 
 -- The path of what has this name in a folder.
 pub record IsPathIn (folder name path : List ℕ) : Type 0 where

@@ -36,7 +36,7 @@ pub fn is_left_out(name: &str) -> bool
     name.starts_with('.') || name == "node_modules"
 }
 
-/// How paths in a folder begin.
+/// How paths in a folder begin. `.//` stays as it is: after `./` the rest would be the root of the system.
 pub(crate) fn base_of(folder: &str) -> &str
     ensures { IsBase folder.now result.now }
 {
@@ -44,8 +44,8 @@ pub(crate) fn base_of(folder: &str) -> &str
         return "";
     }
     match folder.strip_prefix("./") {
-        Some(base) => base,
-        None => folder,
+        Some(base) if !base.starts_with('/') => base,
+        _ => folder,
     }
 }
 
