@@ -69,7 +69,8 @@ pub(crate) struct Seen {
     pub(crate) error: Option<io::Error>,
 }
 
-/// What is in the folder. What cannot be looked at is left out, and its first error is reported.
+/// What is in the folder. What cannot be looked at is left out, and its first error is reported. If the folder cannot be read to
+/// its end, this is what came before.
 pub(crate) fn seen_in<R: Files + AllocGlobal>(rt: &R, folder: &str) -> Result<Seen, AllocError> {
     let mut seen = Seen {
         entries: Vec::new(rt.alloc()),
@@ -83,11 +84,18 @@ pub(crate) fn seen_in<R: Files + AllocGlobal>(rt: &R, folder: &str) -> Result<Se
         }
     };
     for name in names.split(rt.alloc(), 0) {
-        let error = match name {
-            Ok(name) => see(rt, folder, &name, &mut seen.entries)?,
-            Err(error) => Some(fault(error)?),
-        };
-        seen.error = seen.error.or(error);
+        match name {
+            Ok(name) => {
+                let error = see(rt, folder, &name, &mut seen.entries)?;
+                seen.error = seen.error.or(error);
+            }
+            // The next name would have the same error, and so on.
+            Err(error) => {
+                let error = fault(error)?;
+                seen.error = seen.error.or(Some(error));
+                break;
+            }
+        }
     }
     Ok(seen)
 }

@@ -159,13 +159,13 @@ fn is_reported(found: &Found, top: &str) -> bool {
         || found.unlisted.iter().any(|one| one.error.is_some())
 }
 
-// Whether this call fails, of which something is reported.
-fn fails(rt: &HostRuntime, top: &str, call: u32) -> Result<bool, Fail> {
+// Whether calls fail by this fault; then something is reported.
+fn fails(rt: &HostRuntime, top: &str, fault: Fault) -> Result<bool, Fail> {
     let calls = Cell::new(0);
     let runtime = Failing {
         rt,
         calls: &calls,
-        fault: Fault::At(call),
+        fault,
         kind: ErrorKind::Other,
     };
     let selection = Selection {
@@ -187,9 +187,11 @@ fn each_call_on_folders_fails_in_turn(rt: HostRuntime) -> Result<(), Fail> {
     let top = room.at("site")?;
     let mut turns = 0u32;
     for call in 0..100 {
-        if !fails(&rt, top.as_str(), call)? {
+        if !fails(&rt, top.as_str(), Fault::At(call))? {
             break;
         }
+        // A folder whose reading fails again and again is read once.
+        fails(&rt, top.as_str(), Fault::From(call))?;
         turns = turns.saturating_add(1);
     }
     assert!(rt; turns > 20 && turns < 100, "{turns} turns");
