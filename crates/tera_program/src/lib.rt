@@ -1,56 +1,25 @@
-//! The program `tera`: its command line, and what each subcommand does.
+//! The program `tera`: the job that its words ask for, done with the settings that count for it.
 //!
 //! It takes a runtime and returns the status with which the process ends (`run`), so the program consists of this call.
-//! It depends on `clap` for the command line, on `tera_files` for files, on `settings_files` for settings, and on
-//! `tera_report` and `terminal_text` for its output.
-//!
-//! In the order of reading: `options`, the words; `job`, what they ask for; `status`, how it ends; `colours` and
-//! `output`; `settings`, what a file of settings says; `excluded` and `reading`, the templates; `site`, their names in
-//! a site; `found`, `helps`, `forms` and `reporting`, what is found in them, counted and as text; `counting`, the
-//! summary line; `fixing`, corrections in files; `plan` and `markers`, for the formatter; `sending`, the messages to an
-//! editor; then a module for each subcommand.
+//! It depends on `tera_options` for the command line and the job, on `tera_program_parts` for what a file of settings
+//! says and for the status, on `tera_jobs` for what a subcommand does, and on `tera_exchange` for `tera server`.
 #![tactic(auto)]
-
-mod aside;
-mod check;
-mod colours;
-mod components;
-mod counting;
-mod excluded;
-mod explain;
-mod explanations;
-mod fixing;
-mod format;
-mod forms;
-mod found;
-mod helps;
-mod job;
-mod markers;
-mod options;
-mod output;
-mod plan;
-mod reading;
-mod reporting;
-mod sending;
-mod server;
-mod settings;
-mod site;
-mod status;
-mod tree;
 
 ghost use Rattle.std.specs.Prelude.{◌≤◌};
 
-use crate::job::Job;
-use crate::options::command;
-use crate::output::{print_error, print_stopped};
-use crate::settings::{Words, print_unset, site_of};
-use crate::status::{Ended, status_of};
 use clap::Error;
-pub use colours::Terminals;
-pub use plan::{Plan, plan_of};
 use std::rt::{Env, Files};
 use std::{env, io};
 use tera_check::Registered;
+use tera_exchange::server;
+use tera_jobs::settings::site_of;
+use tera_jobs::{check, components, explain, format, tree};
+pub use tera_options::colours::Terminals;
+use tera_options::job::Job;
+use tera_options::options::command;
+use tera_program_parts::output::{print_error, print_stopped};
+use tera_program_parts::settings::{Words, print_unset};
+use tera_program_parts::status::{Ended, status_of};
 
 /// Does what the arguments of the process ask for, and returns the status: 0 if all was done and nothing but warnings
 /// was found; 1 if an error was found, or with `--check` or `--diff` a file that would change; 2 if not all could be

@@ -1,0 +1,3 @@
+pub mod ListedLemmas
+pub mod SendLemmas
+pub mod ServingLemmas

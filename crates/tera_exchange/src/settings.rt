@@ -1,0 +1,209 @@
+//! The settings that count for the templates in a folder, as a server has them.
+
+ghost use Rattle.std.specs.Prelude.{◌≡◌, ◌-◌, Some, map, IfOk, string_bytes};
+ghost use Rattle.tera_settings.specs.Values.{texts_view};
+ghost use Rattle.tera_server.specs.Settings.{rule_view};
+ghost use Rattle.tera_program_parts.specs.Settings.{or_none, set_of};
+
+use settings_files::{Configured, Unfit, WrongFile, settings_above};
+use std::alloc::{AllocError, Global};
+use std::path::Path;
+use std::rt::Files;
+use tera_check::Severity;
+use tera_program_parts::explanations::OPTIONAL_RULES;
+use tera_program_parts::extensions::without_point;
+use tera_program_parts::markers;
+use tera_program_parts::markers::other_markers_of;
+use tera_program_parts::output::why_unread;
+use tera_program_parts::settings::{Site, severity_at, site_in};
+use tera_program_parts::site::itself_of;
+use tera_server::{FolderSettings, FoundSettings, Reason, RuleSetting};
+use tera_settings::Settings;
+
+// What the rules are set to, in the form of a server.
+fn rules_of(
+    alloc: Global,
+    rules: &[tera_settings::RuleLevel],
+) -> Result<Vec<RuleSetting>, AllocError>
+    ensures { IfOk result (λ set. map rule_view set.items ≡ map set_of rules.now) }
+{
+    let mut set = Vec::new(alloc);
+    for rule in rules {
+        let level = severity_at(rule.level);
+        set.push(RuleSetting {
+            rule: rule.rule.clone()?,
+            level,
+        })?;
+    }
+    Ok(set)
+}
+
+/// The settings for the templates in a folder: those of the nearest file in it or above it.
+pub(crate) fn found_for_folder<R: Files + Input + AllocGlobal>(
+    rt: &R,
+    folder: &str,
+) -> Result<FoundSettings, AllocError> {
+    match settings_above(rt, OPTIONAL_RULES.as_slice(), folder) {
+        Ok(Some(file)) => found_in(rt, file),
+        Ok(None) => Ok(FoundSettings::Nothing),
+        Err(why) => wrong_for(rt, why),
+    }
+}
+
+fn found_in<R: Files + AllocGlobal>(rt: &R, file: Configured) -> Result<FoundSettings, AllocError> {
+    let path = whole_path(rt, file.source.file.as_str())?;
+    let unread = why_unread_between(rt.alloc(), &file)?;
+    match site_in(rt, false, file) {
+        Ok(site) => {
+            let settings = folder_settings(rt, site, unread.is_some())?;
+            Ok(FoundSettings::Set(path, settings, unread))
+        }
+        Err(why) => wrong_for(rt, why),
+    }
+}
+
+// The reason that the templates are not read, if their markers are not the usual ones.
+fn why_unread_between(alloc: Global, file: &Configured) -> Result<Option<Reason>, AllocError> {
+    if !has_other_markers(alloc, &file.settings)? {
+        return Ok(None);
+    }
+    let message = String::from_str(
+        alloc,
+        "`markers`: templates between other markers are not checked in the editor",
+    )?;
+    match file.wrong(alloc, None, "markers", message) {
+        Unfit::Wrong(wrong) => Ok(Some(reason_of(wrong, Severity::Warning))),
+        _ => Err(AllocError),
+    }
+}
+
+// Whether the markers can be used, and are not the usual ones.
+fn has_other_markers(alloc: Global, settings: &Settings) -> Result<bool, AllocError> {
+    let Some(words) = &settings.markers else {
+        return Ok(false);
+    };
+    match other_markers_of(alloc, Some(words.as_str())) {
+        Ok(others) => Ok(others.is_some()),
+        Err(markers::Unfit::Memory) => Err(AllocError),
+        Err(_) => Ok(false),
+    }
+}
+
+fn folder_settings<R: Files + AllocGlobal>(
+    rt: &R,
+    site: Site,
+    other_markers: bool,
+) -> Result<FolderSettings, AllocError>
+    ensures markers { IfOk result (λ s. s.other_markers ≡ other_markers) }
+    ensures rules { IfOk result (λ s. map rule_view s.rules.items ≡ map set_of site.rules.items) }
+    ensures exclude { IfOk result (λ s.
+        map string_bytes s.exclude.items ≡ or_none (texts_view site.exclude)) }
+    ensures known { IfOk result (λ s.
+        (s.filters ≡ site.known.filters) × (s.tests ≡ site.known.tests)
+        × (s.functions ≡ site.known.functions)) }
+{
+    let Site {
+        extensions,
+        exclude,
+        library,
+        rules,
+        known,
+        ..
+    } = site;
+    Ok(FolderSettings {
+        extensions: without_points(rt.alloc(), &extensions)?,
+        libraries: known_paths(rt, &or_empty(rt.alloc(), library))?,
+        exclude: or_empty(rt.alloc(), exclude),
+        other_markers,
+        rules: rules_of(rt.alloc(), rules.as_slice())?,
+        filters: known.filters,
+        tests: known.tests,
+        functions: known.functions,
+    })
+}
+
+fn or_empty(alloc: Global, texts: Option<Vec<String>>) -> Vec<String>
+    ensures { map string_bytes result.items ≡ or_none (texts_view texts) }
+{
+    match texts {
+        Some(texts) => texts,
+        None => Vec::new(alloc),
+    }
+}
+
+// The paths by which the system knows these files, without those that it does not know.
+fn known_paths<R: Files + AllocGlobal>(
+    rt: &R,
+    paths: &Vec<String>,
+) -> Result<Vec<String>, AllocError> {
+    let mut known = Vec::new(rt.alloc());
+    for path in paths {
+        if let Some(itself) = itself_of(rt, path.as_str())? {
+            known.push(itself)?;
+        }
+    }
+    Ok(known)
+}
+
+fn without_points(
+    alloc: Global,
+    given: &Option<Vec<String>>,
+) -> Result<Option<Vec<String>>, AllocError> {
+    let Some(given) = given else {
+        return Ok(None);
+    };
+    let mut extensions = Vec::new(alloc);
+    for extension in given {
+        extensions.push(String::from_str(alloc, without_point(extension.as_str()))?)?;
+    }
+    Ok(Some(extensions))
+}
+
+// What is reported if there are no settings for this reason.
+fn wrong_for<R: Files + AllocGlobal>(rt: &R, why: Unfit) -> Result<FoundSettings, AllocError> {
+    match why {
+        Unfit::Memory => Err(AllocError),
+        Unfit::Unread(file, why) => {
+            let path = whole_path(rt, file.as_str())?;
+            let message = why_unread(rt.alloc(), why)?;
+            Ok(FoundSettings::Wrong(
+                path,
+                Reason {
+                    line: None,
+                    severity: Severity::Error,
+                    message,
+                },
+            ))
+        }
+        Unfit::Wrong(wrong) => {
+            let path = whole_path(rt, wrong.file.as_str())?;
+            let reason = reason_of(wrong, Severity::Error);
+            Ok(FoundSettings::Wrong(path, reason))
+        }
+    }
+}
+
+// What is wrong, with its line counted from 0, and this severity.
+fn reason_of(wrong: WrongFile, severity: Severity) -> Reason
+    ensures line { result.line ≡ Some (wrong.line - 1) }
+    ensures severity { result.severity ≡ severity }
+    ensures message { result.message ≡ wrong.message }
+{
+    Reason {
+        line: Some(wrong.line.saturating_sub(1)),
+        severity,
+        message: wrong.message,
+    }
+}
+
+// The absolute path of one that is relative to the folder in which the program runs.
+fn whole_path<R: Files + AllocGlobal>(rt: &R, path: &str) -> Result<String, AllocError> {
+    match itself_of(rt, ".")? {
+        Some(here) => Ok(
+            Path::new(here.as_str())
+                .join(rt.alloc(), path)?
+                .into_string(),
+        ),
+        None => String::from_str(rt.alloc(), path),
+    }
+}

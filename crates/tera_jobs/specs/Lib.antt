@@ -1,0 +1,11 @@
+pub mod Actions
+pub mod Counting
+pub mod Fixing
+pub mod Forms
+pub mod Found
+pub mod Helps
+pub mod Plans
+pub mod Report
+pub mod Rules
+pub mod Sources
+pub mod Trees

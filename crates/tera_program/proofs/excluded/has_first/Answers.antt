@@ -1,9 +1,0 @@
-use Rattle.std.proofs.Common.{◌∙◌, Global, List, String, ap, map, string_bytes}
-use Rattle.tera_program.specs.Excluded.{has_names}
-use Rattle.tera_program.proofs.ExcludedLemmas.{found}
-use Rattle.tera_program.proofs.excluded.has_first.Goals as goal
-
-pub returns : goal.returns
-returns c =
-    c.contains.ensures ∙ found c.split_at.result.0.now c.args.paths.now.keys
-    ∙ ap (λ (names : List (String Global)). has_names c.args.paths.now (map string_bytes names)) c.split_at.ensures.front

@@ -1,8 +1,0 @@
-use Rattle.std.proofs.Common.{take}
-use Rattle.tera_files.specs.Names.{texts}
-use Rattle.tera_program.specs.Excluded.{AreOfPaths}
-use Rattle.tera_program.proofs.excluded.paths_of.Given as goal
-
--- the paths are those so far
-abbrev pub invariant-loop-path : goal.invariant-loop-path
-invariant-loop-path l = AreOfPaths (take l.path-index (texts l.exclude)) l.paths

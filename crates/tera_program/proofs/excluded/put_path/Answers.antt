@@ -1,6 +1,0 @@
-use Rattle.tera_program.proofs.ExcludedLemmas.{put}
-use Rattle.tera_program.proofs.excluded.put_path.Goals as goal
-
-pub returns : goal.returns
-returns c = λ names.
-    put c.args.paths.now c.insert.new.self c.in_ok-folder.folder c.args.path.now names c.in_ok-insert.ensures.keys c.in_ok-folder.ensures

@@ -1,6 +1,0 @@
-use Rattle.std.proofs.Common.{map, string_bytes, take}
-use Rattle.tera_program.specs.Serving.{AreLoaded}
-use Rattle.tera_program.proofs.server.give_files.Given as goal
-
-abbrev pub invariant-loop-path : goal.invariant-loop-path
-invariant-loop-path g l = AreLoaded l.fn.server (map string_bytes (take l.path-index l.path-items)) l.server

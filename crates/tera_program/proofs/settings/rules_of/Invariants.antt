@@ -1,8 +1,0 @@
-use Rattle.std.proofs.Common.{◌≡◌, map, take}
-use Rattle.tera_server.specs.Settings.{rule_view}
-use Rattle.tera_program.specs.Settings.{set_of}
-use Rattle.tera_program.proofs.settings.rules_of.Given as goal
-
--- the rules so far
-abbrev pub invariant-loop-rule : goal.invariant-loop-rule
-invariant-loop-rule l = map rule_view l.set.items ≡ map set_of (take l.rule-index l.rules)

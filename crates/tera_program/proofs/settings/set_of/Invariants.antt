@@ -1,8 +1,0 @@
-use Rattle.std.proofs.Common.{◌≡◌, map, take}
-use Rattle.tera_program.specs.Jobs.{set_view}
-use Rattle.tera_program.specs.Settings.{set_of}
-use Rattle.tera_program.proofs.settings.set_of.Given as goal
-
--- the rules so far
-abbrev pub invariant-loop-rule : goal.invariant-loop-rule
-invariant-loop-rule l = map set_view l.set.items ≡ map set_of (take l.rule-index l.rule-items)

@@ -1,0 +1,2 @@
+pub mod ExcludedLemmas
+pub mod KeptLemmas

@@ -1,0 +1,8 @@
+use Rattle.std.proofs.Common.{◌≡◌, map, take}
+use Rattle.tera_program_parts.specs.Views.{set_view}
+use Rattle.tera_program_parts.specs.Settings.{set_of}
+use Rattle.tera_program_parts.proofs.settings.set_of.Given as goal
+
+-- the rules so far
+abbrev pub invariant-loop-rule : goal.invariant-loop-rule
+invariant-loop-rule l = map set_view l.set.items ≡ map set_of (take l.rule-index l.rule-items)

@@ -1,0 +1,6 @@
+pub mod Ends
+pub mod Excluded
+pub mod Lines
+pub mod Reasons
+pub mod Settings
+pub mod Views
