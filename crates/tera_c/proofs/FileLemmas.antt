@@ -1,7 +1,7 @@
 -- Templates that are read of files, one after another.
 use Rattle.std.proofs.Common.{◌≡◌, ◌<◌, ℕ, List, [], ◌∷◌, ◌++◌, length, get_or, sym, subst}
 use Rattle.std.specs.List.{All}
-use Rattle.tera_check.specs.declared.templates.Template.{Template}
+use Rattle.tera_templates.specs.declared.templates.Template.{Template}
 use Rattle.tera_c.specs.Files.{AreReadFrom, IsReadFrom, IsText, IsUnreadBy, IsUnreadFile, IsUnread}
 use Rattle.tera_c.specs.declared.shapes.AskedFile.{AskedFile}
 use Rattle.tera_c.specs.declared.status.Status.{Status}

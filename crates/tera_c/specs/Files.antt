@@ -1,9 +1,9 @@
 -- Files that are asked about, and the templates that are read of them.
 use Rattle.std.specs.Prelude.{◌≡◌, ℕ, List, [], ◌∷◌, None, IfOk, IfErr, IfSome, MatchOption, MatchResult, map, string_bytes, IsUtf8}
 use Rattle.std.specs.List.{All}
-use Rattle.tera_check.specs.Mended.{IsMended, text_of}
-use Rattle.tera_check.specs.Named.{tree_of}
-use Rattle.tera_check.specs.declared.templates.Template.{Template}
+use Rattle.tera_templates.specs.Mended.{IsMended, text_of}
+use Rattle.tera_templates.specs.Templates.{tree_of}
+use Rattle.tera_templates.specs.declared.templates.Template.{Template}
 use Rattle.tera_grammar.specs.Limits.{usual}
 use Rattle.tera_grammar.specs.statements.Places.{Places}
 use Rattle.tera_grammar.specs.statements.Reading.Meeting.{group_all, nothing_grouped}

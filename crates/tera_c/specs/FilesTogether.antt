@@ -8,13 +8,13 @@ use Rattle.tera_catalogue.specs.Listed.{listed, listed_view, IsInOrder}
 use Rattle.tera_catalogue.specs.Objects.{catalogue_tokens}
 use Rattle.tera_catalogue.specs.Offered.{IsOffered}
 use Rattle.tera_catalogue.specs.declared.components.Component.{Component}
-use Rattle.tera_check.specs.Findings.{FindingVal}
+use Rattle.tera_findings.specs.Findings.{FindingVal}
 use Rattle.tera_check.specs.Found.{AreFound, FoundVal, found_view, known_by}
-use Rattle.tera_check.specs.Lost.{are_open}
+use Rattle.tera_templates.specs.Lost.{are_open}
 use Rattle.tera_check.specs.Named.{defined_by}
-use Rattle.tera_check.specs.Objects.{object_of}
+use Rattle.tera_findings.specs.Objects.{object_of}
 use Rattle.tera_check.specs.declared.found.Found.{Found}
-use Rattle.tera_check.specs.declared.templates.Template.{Template}
+use Rattle.tera_templates.specs.declared.templates.Template.{Template}
 use Rattle.tera_c.specs.Files.{AreReadFrom, IsUnread}
 use Rattle.tera_c.specs.Statuses.{IsPut, IsLeft}
 use Rattle.tera_c.specs.declared.shapes.AskedFile.{AskedFile}

@@ -1,6 +1,6 @@
 -- The tree of a file, whatever faults it has, and these.
 use Rattle.std.specs.Prelude.{◌⊎◌, ℕ, List}
-use Rattle.tera_check.specs.declared.templates.Template.{Template}
+use Rattle.tera_templates.specs.declared.templates.Template.{Template}
 use Rattle.tera_report.specs.Trees.{IsTreeLine}
 use Rattle.tera_c.specs.Files.{IsReadFrom, IsUnreadFile}
 use Rattle.tera_c.specs.Statuses.{IsPut, IsLeft}

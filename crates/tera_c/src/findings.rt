@@ -2,7 +2,7 @@
 
 ghost use Rattle.std.specs.Prelude.{◌≡◌, ◌++◌, map, IfOk, IfErr, OnOk};
 ghost use Rattle.std.specs.List.{flat_map};
-ghost use Rattle.tera_check.specs.Findings.{finding_view};
+ghost use Rattle.tera_findings.specs.Findings.{finding_view};
 ghost use Rattle.tera_c.specs.Files.{IsUnread};
 ghost use Rattle.tera_c.specs.FilesTogether.{HasFindings, AreFindings, finding_line};
 

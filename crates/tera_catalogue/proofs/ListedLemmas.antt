@@ -6,9 +6,9 @@ use Rattle.std.specs.Ordering.{is_lt}
 use Rattle.std.proofs.lemmas.Cmp.{nat_cmp_total, nat_list_cmp_total, on_total, then_total}
 use Rattle.std.proofs.lemmas.List.{get_or-map, length-map, map-append}
 use Rattle.std.proofs.lemmas.List.Sorted.{ranks_by}
-use Rattle.tera_check.specs.Judged.{KnownVal}
+use Rattle.tera_rules.specs.Judged.{KnownVal}
 use Rattle.tera_check.specs.Named.{defined_in, defined_by}
-use Rattle.tera_check.specs.declared.templates.Template.{Template}
+use Rattle.tera_templates.specs.declared.templates.Template.{Template}
 use Rattle.tera_catalogue.specs.Listed.{Rank, rank_cmp}
 
 -- one more of a list, of which the rest is to come

@@ -6,10 +6,10 @@ use Rattle.std.specs.List.Sorted.{IsSortedByKey}
 use Rattle.std.specs.Option.{option_map}
 use Rattle.std.specs.Ordering.{nat_cmp, ordering_then}
 use Rattle.std.specs.declared.cmp.Ordering.{Ordering}
-use Rattle.tera_check.specs.Findings.{place_of}
-use Rattle.tera_check.specs.Judged.{KnownVal}
-use Rattle.tera_check.specs.Parameters.{located_if_any}
-use Rattle.tera_check.specs.declared.finding.Place.{Place}
+use Rattle.tera_findings.specs.Findings.{place_of}
+use Rattle.tera_rules.specs.Judged.{KnownVal}
+use Rattle.tera_rules.specs.Judged.{located_if_any}
+use Rattle.tera_findings.specs.declared.finding.Place.{Place}
 use Rattle.tera_grammar.specs.statements.Reading.Meeting.{Located}
 use Rattle.tera_tree.specs.Infos.{Info, info_of, info_view}
 use Rattle.tera_catalogue.specs.declared.components.Component.{Component}

@@ -5,8 +5,8 @@ use Rattle.std.specs.Option.{option_map}
 use Rattle.json.specs.Token.{Token, begin_object, end_object, begin_array, end_array, key, string, boolean, null}
 use Rattle.json_members.specs.Members.{text_member, number_member}
 use Rattle.tera_base.specs.Values.{Val}
-use Rattle.tera_check.specs.Findings.{place_of, span_if_any}
-use Rattle.tera_check.specs.declared.finding.Place.{Place}
+use Rattle.tera_findings.specs.Findings.{place_of, span_if_any}
+use Rattle.tera_findings.specs.declared.finding.Place.{Place}
 use Rattle.tera_tree.specs.Infos.{ArgumentInfo, is_required, shown_type_name}
 use Rattle.tera_catalogue.specs.Constants.{constant}
 use Rattle.tera_catalogue.specs.Listed.{ListedVal, listed_view}

@@ -5,7 +5,7 @@ use Rattle.std.specs.List.{flat_map}
 use Rattle.std.specs.Option.{option_map}
 use Rattle.tera_base.specs.Text.{inner_text, value_text}
 use Rattle.tera_base.specs.Values.{Val}
-use Rattle.tera_check.specs.declared.finding.Place.{Place}
+use Rattle.tera_findings.specs.declared.finding.Place.{Place}
 use Rattle.tera_tree.specs.Infos.{Info, ArgumentInfo, shown_type_name}
 use Rattle.tera_catalogue.specs.Escapes.{escaped}
 use Rattle.tera_catalogue.specs.Listed.{ListedVal, listed_view}

@@ -3,7 +3,7 @@
 ghost use Rattle.std.specs.Prelude.{◌≡◌, ◌++◌, map, IfOk, OnOk};
 ghost use Rattle.std.specs.List.{All};
 ghost use Rattle.std.specs.List.Sorted.{IsPermutation};
-ghost use Rattle.tera_check.specs.Judged.{known_view};
+ghost use Rattle.tera_rules.specs.Judged.{known_view};
 ghost use Rattle.tera_check.specs.Named.{defined_in, defined_by};
 ghost use Rattle.tera_tree.specs.Infos.{info_of, info_view};
 ghost use Rattle.tera_tree.specs.View.{definition_view};

@@ -5,10 +5,10 @@ use Rattle.std.specs.List.Sorted.{IsPermutation}
 use Rattle.std.proofs.lemmas.List.{length-set, map-append}
 use Rattle.std.proofs.lemmas.List.Sorted.{IsPermutation-map}
 use Rattle.tera_check.specs.Added.{AreAdded, IsAddedAt, IsWith}
-use Rattle.tera_check.specs.Findings.{FindingVal, finding_view}
-use Rattle.tera_check.specs.declared.finding.Finding.{Finding}
+use Rattle.tera_findings.specs.Findings.{FindingVal, finding_view}
+use Rattle.tera_findings.specs.declared.finding.Finding.{Finding}
 use Rattle.tera_check.specs.declared.found.Found.{Found}
-use Rattle.tera_check.specs.declared.templates.Template.{Template}
+use Rattle.tera_templates.specs.declared.templates.Template.{Template}
 
 -- ---- in one template
 

@@ -10,16 +10,16 @@ use Rattle.tera_ast.specs.Tree.{Nodes}
 use Rattle.tera_ast.specs.View.{nodes_of}
 use Rattle.tera_tree.specs.Tree.{Argument, Definition, Output}
 use Rattle.tera_check.specs.Alike.{name_called, names_in, AreAlike, AreAlikeIfAny, AgreeOn}
-use Rattle.tera_check.specs.Calls.{calls_in_definition, calls_in_nodes, calls_of}
-use Rattle.tera_check.specs.Findings.{FindingVal}
-use Rattle.tera_check.specs.Judged.{KnownVal, RemarkVal, taken_by, about, remarked, refused_for, unless_rest, unknown, refusal, counted, refused, refused_one, is_again, refused_findings, missed, missing_findings, missing_in, judged, unused_body, unused_bodies, call_findings, again, defined_again, again_findings}
+use Rattle.tera_rules.specs.Calls.{calls_in_definition, calls_in_nodes, calls_of}
+use Rattle.tera_findings.specs.Findings.{FindingVal}
+use Rattle.tera_rules.specs.Judged.{KnownVal, RemarkVal, taken_by, about, remarked, refused_for, unless_rest, unknown, refusal, counted, refused, refused_one, is_again, refused_findings, missed, missing_findings, missing_in, judged, unused_body, unused_bodies, call_findings, again, defined_again, again_findings}
 use Rattle.tera_check.specs.Named.{span_at, taken_in, tree_findings}
 use Rattle.tera_check.specs.Parameters.{parameter_at}
-use Rattle.tera_check.specs.Repeated.{repeated_findings}
-use Rattle.tera_check.specs.Rules.{small_findings}
-use Rattle.tera_check.specs.Passed.{NamedVal, PassedVal, OneNamed, Whatever, has_whatever, is_passed, passed_by}
-use Rattle.tera_check.specs.declared.repeated.Holder.TheVariants as holders
-use Rattle.tera_check.specs.declared.templates.Template.{Template}
+use Rattle.tera_rules.specs.Repeated.{repeated_findings}
+use Rattle.tera_rules.specs.Rules.{small_findings}
+use Rattle.tera_rules.specs.Passed.{NamedVal, PassedVal, OneNamed, Whatever, has_whatever, is_passed, passed_by}
+use Rattle.tera_rules.specs.declared.repeated.Holder.TheVariants as holders
+use Rattle.tera_templates.specs.declared.templates.Template.{Template}
 use Rattle.tera_check.proofs.TakenLemmas.{all_append, agree_both, unused_alike, taken_by_arguments}
 
 -- ---- one component, and one that is reported alike

@@ -1,16 +1,17 @@
 -- The first component of each name, one by one.
-use Rattle.std.proofs.Common.{◌≡◌, ◌∙◌, ◌<◌, ◌+◌, ℕ, suc, List, [], ◌∷◌, ◌++◌, length, drop, get_or, Bool, true, false, cond, Option, None, Some, is_some, refl, sym, ap, arith, drop-cons}
+use Rattle.std.proofs.Common.{◌≡◌, ◌∙◌, ◌<◌, ◌+◌, ℕ, suc, List, [], ◌∷◌, ◌++◌, length, drop, get_or, Bool, true, false, cond, Option, None, Some, is_some, refl, sym, ap, arith}
 use Rattle.std.proofs.Common.{Bor, Global, String}
 use Rattle.std.specs.BTreeMap.{BTreeMap}
 use Rattle.std.specs.Option.{option_map, option_copied}
 use Rattle.tera_base.specs.declared.utils.Span.{Span}
 use Rattle.tera_statements.specs.Known.{located_of}
-use Rattle.tera_check.specs.declared.catalogue.Known.{Known}
+use Rattle.tera_rules.specs.declared.known.Known.{Known}
 use Rattle.std.specs.Str.{bytes_eq}
 use Rattle.std.proofs.lemmas.Slice.Eq.{bytes_eq-Decides}
-use Rattle.tera_check.specs.Judged.{KnownVal, known_view}
+use Rattle.tera_rules.specs.Judged.{KnownVal, known_view}
+use Rattle.tera_rules.proofs.BodiesLemmas.{drop_next}
 use Rattle.tera_check.specs.Named.{defined_in, defined_by, first_named, or_else}
-use Rattle.tera_check.specs.declared.templates.Template.{Template}
+use Rattle.tera_templates.specs.declared.templates.Template.{Template}
 
 pub parameters_after : (o : Option (Bor (BTreeMap (String Global) Span))) → option_map (λ names. located_of names.now) o ≡ option_map located_of (option_copied o)
 parameters_after None = refl
@@ -74,11 +75,6 @@ pub added : (known : List ℕ → Option KnownVal) (k : KnownVal) (n name : List
 added known k n name now named none is =
     is ∙ ap (λ m. cond (bytes_eq m n) (Some k) (known n)) named
     ∙ added_by (bytes_eq k.definition.name n) k (known n) (λ e. ap known (sym (named ∙ same_name k.definition.name n e)) ∙ none)
-
--- ---- a list from one of its places on
-
-pub drop_next : {X : Type 0} (xs : List X) (i : ℕ) (x : X) → i < length xs → x ≡ get_or xs i x → drop i xs ≡ x ∷ drop (suc i) xs
-drop_next xs i x h is = drop-cons xs i x h ∙ ap (λ y. y ∷ drop (suc i) xs) (sym is)
 
 -- templates
 pub template_next : (n : List ℕ) (ts : List Template) (i : ℕ) (t : Template) (before now all : Option KnownVal) → i < length ts → t ≡ get_or ts i t

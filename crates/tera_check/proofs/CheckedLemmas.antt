@@ -6,11 +6,11 @@ use Rattle.std.proofs.lemmas.List.Sorted.{All-permutation, IsPermutation-map, Is
 use Rattle.tera_base.specs.ErrorView.{error_view}
 use Rattle.tera_base.specs.declared.errors.Error.{Error}
 use Rattle.tera_tree.specs.declared.outputs.ParserOutput.{ParserOutput}
-use Rattle.tera_check.specs.FaultFindings.{AreFaultsBy, AreFaultsOf}
-use Rattle.tera_check.specs.Findings.{FindingVal, IsOfError, finding_view}
-use Rattle.tera_check.specs.declared.finding.Finding.{Finding}
-use Rattle.tera_check.specs.declared.mended.Mended.{Mended}
-use Rattle.tera_check.specs.declared.templates.Template.{Template}
+use Rattle.tera_templates.specs.FaultFindings.{AreFaultsBy, AreFaultsOf}
+use Rattle.tera_findings.specs.Findings.{FindingVal, IsOfError, finding_view}
+use Rattle.tera_findings.specs.declared.finding.Finding.{Finding}
+use Rattle.tera_templates.specs.declared.mended.Mended.{Mended}
+use Rattle.tera_templates.specs.declared.templates.Template.{Template}
 
 none_left : (gs : List FindingVal) → length gs ≡ 0 → gs ≡ []
 none_left [] none = refl

@@ -22,17 +22,18 @@ use Rattle.tera_mend.proofs.Kept.{edits_keep, mends_keep, then}
 use Rattle.tera_mend.proofs.PlacesLemmas.{place_sound}
 use Rattle.tera_tree.specs.Outputs.{output_view}
 use Rattle.tera_tree.specs.declared.outputs.ParserOutput.{ParserOutput}
-use Rattle.tera_check.specs.Boundaries.{bytes_between, is_same_part}
+use Rattle.tera_templates.specs.Boundaries.{bytes_between, is_same_part}
 use Rattle.tera_check.specs.Due.{due_among, due_findings, is_due, is_due_in, is_lost_in, is_undefined, is_written, mark_of, may_name, may_name_by, name_at}
-use Rattle.tera_check.specs.Findings.{FindingOf, FindingVal, NoteVal}
-use Rattle.tera_check.specs.Ignores.{IgnoreVal, ignores_view}
-use Rattle.tera_check.specs.Judged.{KnownVal}
-use Rattle.tera_check.specs.Mended.{IsMended}
-use Rattle.tera_check.specs.Named.{tree_by, tree_findings, tree_of}
+use Rattle.tera_findings.specs.Findings.{FindingOf, FindingVal, NoteVal}
+use Rattle.tera_templates.specs.Ignores.{IgnoreVal, ignores_view}
+use Rattle.tera_rules.specs.Judged.{KnownVal}
+use Rattle.tera_templates.specs.Mended.{IsMended}
+use Rattle.tera_templates.specs.Templates.{tree_by, tree_of}
+use Rattle.tera_check.specs.Named.{tree_findings}
 use Rattle.tera_check.specs.Silenced.{is_silenced, is_unused, silences, unused_among, unused_ignore, unused_ignores}
-use Rattle.tera_check.specs.declared.finding.Kind.TheVariants.{UnusedParameter}
-use Rattle.tera_check.specs.declared.mended.Mended.{Mended}
-use Rattle.tera_check.specs.declared.templates.Template.{Template}
+use Rattle.tera_findings.specs.declared.finding.Kind.TheVariants.{UnusedParameter}
+use Rattle.tera_templates.specs.declared.mended.Mended.{Mended}
+use Rattle.tera_templates.specs.declared.templates.Template.{Template}
 
 -- ---- tests
 

@@ -1,19 +1,16 @@
 -- Which findings are due.
-use Rattle.std.proofs.Common.{◌≡◌, ◌∙◌, ◌+◌, ◌<◌, ◌≤◌, ℕ, zero, suc, Bool, true, false, Bor, cond, List, [], ◌∷◌, ◌++◌, Option, None, Some, length, drop, get_or, map, refl, sym, ap, append_assoc, arith}
-use Rattle.std.specs.Prelude.{◌↔◌, ◌&&◌, ◌||◌, IsTrue, MatchOption, ◌==◌, nat_le, nat_lt, not, slice_index}
+use Rattle.std.proofs.Common.{◌≡◌, ◌∙◌, ◌+◌, ◌≤◌, ℕ, zero, suc, Bool, true, false, Bor, cond, List, [], ◌∷◌, ◌++◌, Option, None, Some, drop, get_or, map, refl, sym, ap, append_assoc, arith}
+use Rattle.std.specs.Prelude.{◌&&◌, ◌||◌, MatchOption, ◌==◌, nat_le, nat_lt, not}
 use Rattle.std.specs.BTreeMap.Range.{range_contains}
 use Rattle.std.specs.List.{filter, find, list_any, slice_get}
 use Rattle.std.specs.Option.{is_some, option_map}
 use Rattle.std.specs.Ordering.{is_le, nat_cmp}
-use Rattle.std.specs.Str.{IsCharBoundary}
 use Rattle.std.specs.declared.cmp.Ordering.TheVariants.{Equal, Greater, Less}
 use Rattle.std.specs.declared.ops.Bound.TheVariants.{Excluded, Included, Unbounded}
 use Rattle.std.proofs.lemmas.Bool.Decides.{nat_tests}
 use Rattle.std.proofs.lemmas.List.{map-append}
-use Rattle.tera_lexer.specs.grammar.Place.{begins_character}
-use Rattle.tera_check.specs.Boundaries.{is_boundary}
-use Rattle.tera_check.specs.Findings.{FindingVal, finding_view}
-use Rattle.tera_check.specs.declared.finding.Finding.{Finding}
+use Rattle.tera_findings.specs.Findings.{FindingVal, finding_view}
+use Rattle.tera_findings.specs.declared.finding.Finding.{Finding}
 
 -- ---- a filter, one by one
 
@@ -33,25 +30,6 @@ due_more p start old new done f held step =
     let all : map finding_view (done ++ f ∷ []) ≡ map finding_view done ++ (finding_view f ∷ []) = map-append finding_view done (f ∷ []) in
     step ∙ ap (λ fs. fs ++ one) held ∙ append_assoc start (filter p (map finding_view done)) one
     ∙ ap (λ fs. start ++ fs) (sym (ap (filter p) all ∙ filter_parts p (map finding_view done) (finding_view f ∷ [])))
-
--- ---- a character begins at the byte, or the text ends there
-
-boundary_from : (text : List ℕ) (at : ℕ) → is_boundary text at ≡ true → IsCharBoundary text at
-boundary_from text at is = (grind (arith, nat_tests), λ less high. grind (arith, nat_tests))
-
-boundary_to : (text : List ℕ) (at : ℕ) → IsCharBoundary text at → is_boundary text at ≡ true
-boundary_to text at is =
-    let within : at ≤ length text = is.0 in
-    let begins : at < length text → 128 ≤ slice_index text at → 192 ≤ slice_index text at = is.1 in
-    grind (arith, nat_tests)
-
-no_boundary : (b : Bool) (P : Type 0) → (b ≡ true → P) → (P → false ≡ true) → false ≡ b
-no_boundary true P from none = none (from refl)
-no_boundary false P from none = refl
-
-pub boundary_is : (text : List ℕ) (at : ℕ) (b : Bool) → (IsTrue b ↔ IsCharBoundary text at) → b ≡ is_boundary text at
-boundary_is text at true h = sym (boundary_to text at (h.0 refl))
-boundary_is text at false h = no_boundary (is_boundary text at) (IsCharBoundary text at) (boundary_from text at) h.1
 
 -- ---- the first of a filter, and whether it has one
 

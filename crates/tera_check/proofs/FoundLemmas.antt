@@ -2,12 +2,12 @@
 use Rattle.std.proofs.Common.{◌≡◌, ◌<◌, ◌≤◌, ◌+◌, ℕ, suc, List, [], ◌∷◌, ◌++◌, Bool, length, map, Option, Result, Ok, Err, IfOk, Vec, Global, subst, arith}
 use Rattle.std.specs.List.Sorted.{IsPermutation}
 use Rattle.tera_check.specs.Due.{due_findings}
-use Rattle.tera_check.specs.FaultFindings.{AreFaultsOf}
-use Rattle.tera_check.specs.Findings.{FindingVal, finding_view}
-use Rattle.tera_check.specs.Judged.{KnownVal}
+use Rattle.tera_templates.specs.FaultFindings.{AreFaultsOf}
+use Rattle.tera_findings.specs.Findings.{FindingVal, finding_view}
+use Rattle.tera_rules.specs.Judged.{KnownVal}
 use Rattle.tera_check.specs.OrderAndStatus.{IsInOrder}
-use Rattle.tera_check.specs.declared.finding.Finding.{Finding}
-use Rattle.tera_check.specs.declared.templates.Template.{Template}
+use Rattle.tera_findings.specs.declared.finding.Finding.{Finding}
+use Rattle.tera_templates.specs.declared.templates.Template.{Template}
 use Rattle.tera_check.specs.Found.{AreFound, none, one, IsFoundUnder, IsFoundOf}
 use Rattle.tera_check.specs.declared.found.Found.{Found}
 

@@ -8,8 +8,8 @@ use Rattle.tera_tree.specs.Tree.{Argument, Definition}
 use Rattle.tera_tree.specs.View.{argument_view, definition_view}
 use Rattle.tera_tree.specs.declared.ast.ComponentArgument.{ComponentArgument}
 use Rattle.tera_tree.specs.declared.ast.ComponentDefinition.{ComponentDefinition}
-use Rattle.tera_check.specs.Findings.{FindingVal}
-use Rattle.tera_check.proofs.CatalogueLemmas.{drop_next}
+use Rattle.tera_findings.specs.Findings.{FindingVal}
+use Rattle.tera_rules.proofs.BodiesLemmas.{drop_next}
 use Rattle.std.proofs.Common.{◌⊎◌, String, Global, inl, inr, rules, string_bytes}
 use Rattle.std.proofs.lemmas.List.{map-append}
 use Rattle.tera_base.specs.Spanned.{node_of, span_of}

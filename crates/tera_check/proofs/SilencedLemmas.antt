@@ -10,11 +10,11 @@ use Rattle.std.specs.Str.{bytes_eq}
 use Rattle.std.proofs.lemmas.Bool.Decides.{Decides-eqb}
 use Rattle.std.proofs.lemmas.List.{map-append}
 use Rattle.std.proofs.lemmas.Slice.Eq.{bytes_eq-Decides}
-use Rattle.tera_check.specs.Findings.{FindingVal, FoundAs, finding_view, kind_name}
-use Rattle.tera_check.specs.Ignores.{IgnoreVal}
-use Rattle.tera_check.specs.Lost.{places_under}
+use Rattle.tera_findings.specs.Findings.{FindingVal, FoundAs, finding_view, kind_name}
+use Rattle.tera_templates.specs.Ignores.{IgnoreVal}
+use Rattle.tera_templates.specs.Lost.{places_under}
 use Rattle.tera_check.specs.Silenced.{Lines, next_line, covers, silences, silences_at, is_unused, begins_at, has_finding_at, unused_among, unused_ignore}
-use Rattle.tera_check.specs.declared.finding.Finding.{Finding}
+use Rattle.tera_findings.specs.declared.finding.Finding.{Finding}
 
 false_true : false ≡ true → ⊥
 false_true e = true≢false (sym e)

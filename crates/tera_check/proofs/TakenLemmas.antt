@@ -10,8 +10,8 @@ use Rattle.tera_check.specs.Alike.{name_called}
 use Rattle.tera_ast.specs.View.{nodes_of}
 use Rattle.tera_grammar.specs.statements.Reading.Meeting.{Located}
 use Rattle.tera_tree.specs.Tree.{Definition}
-use Rattle.tera_check.specs.Calls.{calls_in, calls_in_maybe, calls_in_filters, calls_in_args, calls_in_items, calls_in_entries, calls_in_node, calls_in_nodes, calls_in_definition}
-use Rattle.tera_check.specs.Judged.{KnownVal, takes_it, taken_by}
+use Rattle.tera_rules.specs.Calls.{calls_in, calls_in_maybe, calls_in_filters, calls_in_args, calls_in_items, calls_in_entries, calls_in_node, calls_in_nodes, calls_in_definition}
+use Rattle.tera_rules.specs.Judged.{KnownVal, takes_it, taken_by}
 use Rattle.tera_check.specs.Named.{taken_in}
 use Rattle.tera_check.specs.Parameters.{binds, named_in, named_in_maybe, named_in_filters, named_in_args, named_in_items, named_in_entries, named_in_node, named_in_nodes, unused_of, unused_in}
 

@@ -12,11 +12,11 @@ use Rattle.tera_ast.proofs.Views.{view_filter, view_function_call, view_test}
 use Rattle.std.specs.List.{flat_map}
 use Rattle.tera_tree.specs.Parts.{PartVal, ExpressionPart, children, parts_view}
 use Rattle.tera_tree.specs.declared.parts.Part.{Part}
-use Rattle.tera_check.specs.Registered.{RegisteredVal}
+use Rattle.tera_rules.specs.Registered.{RegisteredVal}
 use Rattle.tera_check.specs.Unknown.{unknown_if, unknown_in}
-use Rattle.tera_check.specs.Within.{all_parts}
-use Rattle.tera_check.specs.declared.registered.Registry.TheVariants as registries
-use Rattle.tera_check.proofs.RulesLemmas.{last_part}
+use Rattle.tera_rules.specs.Within.{all_parts}
+use Rattle.tera_rules.specs.declared.registered.Registry.TheVariants as registries
+use Rattle.tera_rules.proofs.RulesLemmas.{last_part}
 
 pub filter_view : (r : RegisteredVal) (s : Spanned (FilterOf Expression))
     → unknown_in r (ExpressionPart (expression_view (code.Filter s))) ≡ unknown_if r registries.Filters (string_bytes (node_of s).name) (span_of s)

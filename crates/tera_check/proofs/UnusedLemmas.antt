@@ -17,12 +17,12 @@ use Rattle.tera_tree.specs.Outputs.{output_view}
 use Rattle.tera_tree.specs.View.{definition_view}
 use Rattle.tera_tree.specs.declared.ast.ComponentDefinition.{ComponentDefinition}
 use Rattle.tera_tree.specs.declared.outputs.ParserOutput.{ParserOutput}
-use Rattle.tera_check.specs.Calls.{calls_of}
-use Rattle.tera_check.specs.Findings.{FindingVal}
-use Rattle.tera_check.specs.Pending.{seen}
+use Rattle.tera_rules.specs.Calls.{calls_of}
+use Rattle.tera_findings.specs.Findings.{FindingVal}
+use Rattle.tera_rules.specs.Pending.{seen}
 use Rattle.tera_check.specs.UnusedComponents.{is_call_of, may_be_called, may_call, may_call_by, unused_component_if, unused_components}
-use Rattle.tera_check.specs.declared.templates.Template.{Template}
-use Rattle.tera_check.proofs.CatalogueLemmas.{drop_next}
+use Rattle.tera_templates.specs.declared.templates.Template.{Template}
+use Rattle.tera_rules.proofs.BodiesLemmas.{drop_next}
 
 or_false : (b : Bool) → (b || false) ≡ b
 or_false true = refl

@@ -1,10 +1,10 @@
 -- What is added to what is found in templates.
 use Rattle.std.specs.Prelude.{◌≡◌, ◌≢◌, ◌<◌, ◌≤◌, ◌++◌, ℕ, List, Some, length, map, slice_get}
 use Rattle.std.specs.List.Sorted.{IsPermutation}
-use Rattle.tera_check.specs.Findings.{FindingVal, finding_view}
+use Rattle.tera_findings.specs.Findings.{FindingVal, finding_view}
 use Rattle.tera_check.specs.OrderAndStatus.{IsInOrder}
 use Rattle.tera_check.specs.declared.found.Found.{Found}
-use Rattle.tera_check.specs.declared.templates.Template.{Template}
+use Rattle.tera_templates.specs.declared.templates.Template.{Template}
 
 -- what is found in a template is what was found before, and more, in the order of the places
 pub record IsWith (more : List FindingVal) (old new : Found) : Type 0 where

@@ -3,8 +3,8 @@ use Rattle.std.specs.Prelude.{◌≡◌, ℕ, List, [], ◌∷◌, ◌++◌, map
 use Rattle.std.specs.List.{flat_map, AllByRecursion}
 use Rattle.tera_ast.specs.Tree.{Expr, ComponentCall}
 use Rattle.tera_tree.specs.Tree.{Output}
-use Rattle.tera_check.specs.Calls.{calls_of}
-use Rattle.tera_check.specs.Judged.{KnownVal}
+use Rattle.tera_rules.specs.Calls.{calls_of}
+use Rattle.tera_rules.specs.Judged.{KnownVal}
 
 -- the names of the components that a tree defines and calls
 abbrev pub name_called : Expr → List (List ℕ)

@@ -5,16 +5,17 @@ use Rattle.std.specs.List.{filter, find, list_any}
 use Rattle.std.specs.Option.{option_map_or}
 use Rattle.tera_base.specs.declared.utils.Span.{Span}
 use Rattle.tera_tree.specs.Outputs.{output_view}
-use Rattle.tera_check.specs.Boundaries.{is_same_part, text_at}
-use Rattle.tera_check.specs.Findings.{FindingVal, FoundAs}
-use Rattle.tera_check.specs.Judged.{KnownVal}
-use Rattle.tera_check.specs.Lost.{places_under}
-use Rattle.tera_check.specs.Named.{tree_findings, tree_of}
+use Rattle.tera_templates.specs.Boundaries.{is_same_part, text_at}
+use Rattle.tera_findings.specs.Findings.{FindingVal, FoundAs}
+use Rattle.tera_rules.specs.Judged.{KnownVal}
+use Rattle.tera_templates.specs.Lost.{places_under}
+use Rattle.tera_check.specs.Named.{tree_findings}
+use Rattle.tera_templates.specs.Templates.{tree_of}
 use Rattle.tera_check.specs.Silenced.{is_silenced, is_undefined_kind, unused_ignores}
-use Rattle.tera_check.specs.declared.finding.Kind.{Kind}
-use Rattle.tera_check.specs.declared.finding.Kind.TheVariants as kinds
-use Rattle.tera_check.specs.declared.mended.Mended.{Mended}
-use Rattle.tera_check.specs.declared.templates.Template.{Template}
+use Rattle.tera_findings.specs.declared.finding.Kind.{Kind}
+use Rattle.tera_findings.specs.declared.finding.Kind.TheVariants as kinds
+use Rattle.tera_templates.specs.declared.mended.Mended.{Mended}
+use Rattle.tera_templates.specs.declared.templates.Template.{Template}
 
 -- the first byte that a finding is about, and the byte after the last; for a call only its `<`, as its body may have
 -- faults

@@ -2,14 +2,14 @@
 use Rattle.std.specs.Prelude.{◌≡◌, ◌<◌, ◌≤◌, ℕ, suc, List, [], ◌∷◌, ◌++◌, Bool, map, Option, string_bytes}
 use Rattle.std.specs.List.Sorted.{IsPermutation}
 use Rattle.tera_check.specs.Due.{due_findings}
-use Rattle.tera_check.specs.FaultFindings.{AreFaultsOf}
-use Rattle.tera_check.specs.Findings.{FindingVal, finding_view}
-use Rattle.tera_check.specs.Judged.{KnownVal}
+use Rattle.tera_templates.specs.FaultFindings.{AreFaultsOf}
+use Rattle.tera_findings.specs.Findings.{FindingVal, finding_view}
+use Rattle.tera_rules.specs.Judged.{KnownVal}
 use Rattle.tera_check.specs.Named.{first_named, defined_by}
 use Rattle.tera_check.specs.OrderAndStatus.{IsInOrder}
-use Rattle.tera_check.specs.declared.finding.Finding.{Finding}
+use Rattle.tera_findings.specs.declared.finding.Finding.{Finding}
 use Rattle.tera_check.specs.declared.found.Found.{Found}
-use Rattle.tera_check.specs.declared.templates.Template.{Template}
+use Rattle.tera_templates.specs.declared.templates.Template.{Template}
 
 -- the components that templates define, by their names
 abbrev pub known_by : List Template → List ℕ → Option KnownVal

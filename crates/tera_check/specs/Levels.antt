@@ -3,11 +3,11 @@ use denote.Ref.{Bor}
 use Rattle.std.specs.Prelude.{◌≡◌, ℕ, List, Bool, true, false, Option, None, Some, bytes_eq, filter, find, if◌then◌else◌, is_some, map, unwrap_or}
 use Rattle.std.specs.List.{list_any}
 use Rattle.std.specs.Option.{option_map_or}
-use Rattle.tera_check.specs.Findings.{kind_name, severity_of, default_level}
-use Rattle.tera_check.specs.declared.finding.Finding.{Finding}
-use Rattle.tera_check.specs.declared.finding.Kind.{Kind}
-use Rattle.tera_check.specs.declared.finding.Kind.TheVariants as kinds
-use Rattle.tera_check.specs.declared.finding.Severity.{Severity}
+use Rattle.tera_findings.specs.Findings.{kind_name, severity_of, default_level}
+use Rattle.tera_findings.specs.declared.finding.Finding.{Finding}
+use Rattle.tera_findings.specs.declared.finding.Kind.{Kind}
+use Rattle.tera_findings.specs.declared.finding.Kind.TheVariants as kinds
+use Rattle.tera_findings.specs.declared.finding.Severity.{Severity}
 use Rattle.tera_check.specs.declared.found.Found.{Found}
 use Rattle.tera_check.specs.declared.levels.Levels.{Levels}
 use Rattle.tera_check.specs.declared.levels.RuleLevel.{RuleLevel}

@@ -1,24 +1,20 @@
 -- The components that templates define, by their names.
-use Rattle.std.specs.Prelude.{ℕ, suc, List, [], ◌∷◌, ◌++◌, cond, map, Option, None, Some, Result, Ok, Err, String, string_bytes, slice_index_or}
+use Rattle.std.specs.Prelude.{ℕ, suc, List, [], ◌∷◌, ◌++◌, cond, Option, None, Some, String, string_bytes, slice_index_or}
 use Rattle.std.specs.declared.alloc.Global.{Global}
 use Rattle.std.specs.BTreeMap.{BTreeMap, get_by_text}
 use Rattle.std.specs.Option.{option_map}
 use Rattle.std.specs.Str.{bytes_eq}
-use Rattle.tera_base.specs.declared.errors.Error.{Error}
 use Rattle.tera_base.specs.declared.utils.Span.{Span}
-use Rattle.tera_tree.specs.declared.outputs.ParserOutput.{ParserOutput}
 use Rattle.std.specs.List.{flat_map}
 use Rattle.tera_tree.specs.Tree.{Definition, Output}
-use Rattle.tera_tree.specs.View.{definition_view}
-use Rattle.tera_check.specs.Bodies.{shows_in}
-use Rattle.tera_check.specs.Calls.{calls_of}
-use Rattle.tera_check.specs.Findings.{FindingVal, first_span}
-use Rattle.tera_check.specs.Judged.{KnownVal, known_view, taken_by, call_findings, again_findings}
+use Rattle.tera_templates.specs.Templates.{definitions_of, shows_in}
+use Rattle.tera_rules.specs.Calls.{calls_of}
+use Rattle.tera_findings.specs.Findings.{FindingVal, first_span}
+use Rattle.tera_rules.specs.Judged.{KnownVal, known_view, taken_by, call_findings, again_findings}
 use Rattle.tera_check.specs.Parameters.{Taking, parameter_at, unused_in}
-use Rattle.tera_check.specs.Rules.{small_findings}
-use Rattle.tera_check.specs.declared.catalogue.Known.{Known}
-use Rattle.tera_check.specs.declared.mended.Mended.{Mended}
-use Rattle.tera_check.specs.declared.templates.Template.{Template}
+use Rattle.tera_rules.specs.Rules.{small_findings}
+use Rattle.tera_rules.specs.declared.known.Known.{Known}
+use Rattle.tera_templates.specs.declared.templates.Template.{Template}
 
 -- what a catalogue has under a name
 abbrev pub known_in : BTreeMap (String Global) Known → List ℕ → Option KnownVal
@@ -42,22 +38,6 @@ known_at number t at d = record {
 abbrev pub defined_from : ℕ → Template → ℕ → List Definition → List KnownVal
 defined_from number t at [] = []
 defined_from number t at (d ∷ ds) = known_at number t at d ∷ defined_from number t (suc at) ds
-
--- the tree of a template; if it has a fault, the tree that it was mended to, if there is one
-abbrev pub tree_by : Result ParserOutput Error → Option Mended → Option ParserOutput
-tree_by (Ok o) m = Some o
-tree_by (Err e) m = option_map (λ m. m.output) m
-
-abbrev pub tree_of : Template → Option ParserOutput
-tree_of t = tree_by t.parsed t.mended
-
--- the definitions in the tree, if there is one
-abbrev pub definitions_in : Option ParserOutput → List Definition
-definitions_in None = []
-definitions_in (Some output) = map definition_view output.component_definitions.items
-
-abbrev pub definitions_of : Template → List Definition
-definitions_of t = definitions_in (tree_of t)
 
 abbrev pub defined_in : ℕ → Template → List KnownVal
 defined_in number t = defined_from number t 0 (definitions_of t)

@@ -3,9 +3,9 @@ use Rattle.std.specs.Prelude.{ℕ, List, Bool, true, false}
 use Rattle.std.specs.List.Sorted.{IsSortedByKey}
 use Rattle.std.specs.Ordering.{nat_cmp, ordering_then}
 use Rattle.std.specs.declared.cmp.Ordering.{Ordering}
-use Rattle.tera_check.specs.Findings.{place_of}
-use Rattle.tera_check.specs.declared.finding.Finding.{Finding}
-use Rattle.tera_check.specs.declared.finding.Place.{Place}
+use Rattle.tera_findings.specs.Findings.{place_of}
+use Rattle.tera_findings.specs.declared.finding.Finding.{Finding}
+use Rattle.tera_findings.specs.declared.finding.Place.{Place}
 
 -- findings in the order of their places: by line, and in a line by column
 abbrev pub place_cmp : Place → Place → Ordering

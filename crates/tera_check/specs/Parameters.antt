@@ -8,20 +8,18 @@ use Rattle.tera_ast.specs.Tree.{Expr, Const, Array, Map, Var, GetAttr, GetItem, 
 use Rattle.tera_ast.specs.Tree.{MaybeExpr, NoExpr, OneExpr, Filters, NoFilters, OneFilter, Args, NoArgs, Arg, Items, NoItems, Item, SpreadItem, Entries, NoEntries, Entry, SpreadEntry}
 use Rattle.tera_ast.specs.Tree.{Stmt, Content, Shown, Set, BlockSet, Include, Block, ForLoop, Break, Continue, If, FilterSection, Nodes, NoNodes, OneNode}
 use Rattle.tera_statements.specs.Known.{grouped_of}
-use Rattle.tera_grammar.specs.statements.Reading.Meeting.{Located, nothing_located}
+use Rattle.tera_grammar.specs.statements.Reading.Meeting.{Located}
 use Rattle.tera_tree.specs.Tree.{Definition}
-use Rattle.tera_check.specs.Findings.{FindingVal, FindingOf, span_if_any}
-use Rattle.tera_check.specs.declared.finding.Kind.TheVariants as kinds
-use Rattle.tera_check.specs.declared.templates.Template.{Template}
+use Rattle.tera_findings.specs.Findings.{FindingVal, FindingOf, span_if_any}
+use Rattle.tera_rules.specs.Bodies.{all_variables}
+use Rattle.tera_rules.specs.Judged.{located_if_any}
+use Rattle.tera_findings.specs.declared.finding.Kind.TheVariants as kinds
+use Rattle.tera_templates.specs.declared.templates.Template.{Template}
 
 -- a loop, or a comprehension, gives this name to its items
 abbrev pub binds : Option (List ℕ) → List ℕ → List ℕ → Bool
 binds None value n = bytes_eq value n
 binds (Some key) value n = bytes_eq value n || bytes_eq key n
-
--- the variable that shows all others
-abbrev pub all_variables : List ℕ
-all_variables = codes "__tera_context"
 
 abbrev pub variable_names : Bool → List ℕ → List ℕ → Bool
 variable_names hidden n name = bytes_eq name all_variables || not hidden && bytes_eq name n
@@ -97,10 +95,6 @@ abbrev mutual
   named_in_nodes takes hidden n (OneNode s ss) = named_in_node takes hidden n s || named_in_nodes takes hidden n ss
 
 -- where a template has the parameters of a component, by its name and theirs
-abbrev pub located_if_any : Option Located → Located
-located_if_any None = nothing_located
-located_if_any (Some names) = names
-
 abbrev pub parameter_at : Template → List ℕ → Located
 parameter_at t component = located_if_any (grouped_of t.parameters_at component)
 

@@ -6,7 +6,7 @@ use Rattle.std.specs.Option.{is_some}
 use Rattle.std.specs.Str.{bytes_eq}
 use Rattle.tera_tree.specs.Parts.{PartVal, NodePart, ExpressionPart, parts_view}
 use Rattle.tera_tree.specs.declared.parts.Part.{Part}
-use Rattle.tera_check.specs.Repeated.{span_under}
+use Rattle.tera_rules.specs.Repeated.{span_under}
 use Rattle.tera_check.specs.Parameters.{Taking, named_in, named_in_node}
 use Rattle.tera_check.specs.declared.parameters.Naming.{Naming}
 use Rattle.tera_check.specs.declared.parameters.Scope.{Scope}

@@ -6,12 +6,12 @@ use Rattle.std.specs.BTreeSet.{BTreeSet}
 use Rattle.std.specs.List.{Contains, filter, find, list_any}
 use Rattle.std.specs.Option.{is_some, option_map_or}
 use Rattle.std.specs.Str.{bytes_eq}
-use Rattle.tera_check.specs.Findings.{FindingVal, FindingOf, FoundAs, all_kinds, depends_on_others, kind_name}
-use Rattle.tera_check.specs.Ignores.{IgnoreVal, ignores_view}
-use Rattle.tera_check.specs.Lost.{places_under}
-use Rattle.tera_check.specs.declared.finding.Kind.{Kind}
-use Rattle.tera_check.specs.declared.finding.Kind.TheVariants as kinds
-use Rattle.tera_check.specs.declared.templates.Template.{Template}
+use Rattle.tera_findings.specs.Findings.{FindingVal, FindingOf, FoundAs, all_kinds, depends_on_others, kind_name}
+use Rattle.tera_templates.specs.Ignores.{IgnoreVal, ignores_view}
+use Rattle.tera_templates.specs.Lost.{places_under}
+use Rattle.tera_findings.specs.declared.finding.Kind.{Kind}
+use Rattle.tera_findings.specs.declared.finding.Kind.TheVariants as kinds
+use Rattle.tera_templates.specs.declared.templates.Template.{Template}
 
 -- the line after a comment
 abbrev pub next_line : IgnoreVal → ℕ

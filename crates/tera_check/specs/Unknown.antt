@@ -9,16 +9,16 @@ use Rattle.tera_tree.specs.Parts.{PartVal, ExpressionPart}
 use Rattle.tera_tree.specs.Tree.{Output}
 use Rattle.tera_check.specs.Added.{AreAdded}
 use Rattle.tera_check.specs.Due.{is_due}
-use Rattle.tera_check.specs.Findings.{FindingVal, FindingOf}
-use Rattle.tera_check.specs.Named.{tree_of}
-use Rattle.tera_check.specs.Registered.{RegisteredVal, has}
-use Rattle.tera_check.specs.Within.{parts_of}
-use Rattle.tera_check.specs.declared.finding.Kind.{Kind}
-use Rattle.tera_check.specs.declared.finding.Kind.TheVariants as kinds
+use Rattle.tera_findings.specs.Findings.{FindingVal, FindingOf}
+use Rattle.tera_templates.specs.Templates.{tree_of}
+use Rattle.tera_rules.specs.Registered.{RegisteredVal, has}
+use Rattle.tera_rules.specs.Within.{parts_of}
+use Rattle.tera_findings.specs.declared.finding.Kind.{Kind}
+use Rattle.tera_findings.specs.declared.finding.Kind.TheVariants as kinds
 use Rattle.tera_check.specs.declared.found.Found.{Found}
-use Rattle.tera_check.specs.declared.registered.Registry.{Registry}
-use Rattle.tera_check.specs.declared.registered.Registry.TheVariants as registries
-use Rattle.tera_check.specs.declared.templates.Template.{Template}
+use Rattle.tera_rules.specs.declared.registered.Registry.{Registry}
+use Rattle.tera_rules.specs.declared.registered.Registry.TheVariants as registries
+use Rattle.tera_templates.specs.declared.templates.Template.{Template}
 
 -- the finding that a name is not registered
 abbrev pub unknown_kind : Registry → Kind

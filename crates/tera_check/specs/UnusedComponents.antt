@@ -9,15 +9,16 @@ use Rattle.tera_tree.specs.Outputs.{output_view}
 use Rattle.tera_tree.specs.Tree.{Definition}
 use Rattle.tera_tree.specs.declared.outputs.ParserOutput.{ParserOutput}
 use Rattle.tera_check.specs.Added.{AreAdded}
-use Rattle.tera_check.specs.Calls.{calls_of}
+use Rattle.tera_rules.specs.Calls.{calls_of}
 use Rattle.tera_check.specs.Due.{is_due}
-use Rattle.tera_check.specs.Findings.{FindingVal, FindingOf}
-use Rattle.tera_check.specs.Named.{definitions_of, span_at}
+use Rattle.tera_findings.specs.Findings.{FindingVal, FindingOf}
+use Rattle.tera_templates.specs.Templates.{definitions_of}
+use Rattle.tera_check.specs.Named.{span_at}
 use Rattle.tera_check.specs.Parameters.{may_be_unused}
-use Rattle.tera_check.specs.Registered.{has_name}
-use Rattle.tera_check.specs.declared.finding.Kind.TheVariants as kinds
+use Rattle.tera_rules.specs.Registered.{has_name}
+use Rattle.tera_findings.specs.declared.finding.Kind.TheVariants as kinds
 use Rattle.tera_check.specs.declared.found.Found.{Found}
-use Rattle.tera_check.specs.declared.templates.Template.{Template}
+use Rattle.tera_templates.specs.declared.templates.Template.{Template}
 use Rattle.tera_check.specs.declared.unused_components.Called.{Called}
 
 -- it is a call of the component of this name

@@ -2,30 +2,16 @@
 
 ghost use Rattle.std.specs.Prelude.{◌≡◌, ◌∷◌, [], ℕ, List, IfOk, OnOk};
 ghost use Rattle.tera_tree.specs.View.{definition_view};
-ghost use Rattle.tera_check.specs.Judged.{known_view};
+ghost use Rattle.tera_rules.specs.Judged.{known_view};
 ghost use Rattle.tera_check.specs.Named.{known_in, span_at, known_at, defined_in, defined_by, first_named, or_else};
 
-use crate::spans::first_span;
-use crate::templates::{Template, definitions_of};
 use std::alloc::{AllocError, Global};
 use std::collections::BTreeMap;
+use tera_findings::first_span;
 use tera_parser::ast::ComponentDefinition;
 use tera_parser::value::Span;
-
-/// A component, and where it is defined.
-#[derive(Drop)]
-pub struct Known<'a> {
-    pub definition: &'a ComponentDefinition,
-    /// The number of its template among all templates.
-    pub template: usize,
-    pub file: &'a str,
-    /// Where its name is in that file: the last part of the name.
-    pub span: Span,
-    /// Where its parameters are in that file, by their names.
-    pub parameters: Option<&'a BTreeMap<String, Span>>,
-    /// Whether it may show the body that it is given.
-    pub shows_body: bool,
-}
+use tera_rules::Known;
+use tera_templates::{Template, definitions_of};
 
 /// The components that some templates define, by their names. If several have one name, it is the first.
 pub type Catalogue<'a> = BTreeMap<String, Known<'a>>;

@@ -4,19 +4,17 @@ ghost use Rattle.std.specs.Prelude.{◌≡◌, ◌∷◌, [], ◌++◌, ◌&&◌
 ghost use Rattle.std.specs.BTreeSet.{keys};
 ghost use Rattle.std.specs.List.{filter, find, list_any};
 ghost use Rattle.std.specs.Option.{option_map};
-ghost use Rattle.tera_check.specs.Boundaries.{is_boundary, is_same_part, text_at};
 ghost use Rattle.tera_check.specs.Due.{is_due, is_written, end_of_definition, is_doubtful, is_due_in, is_lost_between, mark_of, may_name, name_at};
-ghost use Rattle.tera_check.specs.Findings.{finding_view};
-ghost use Rattle.tera_check.specs.Ignores.{ignores_view};
+ghost use Rattle.tera_findings.specs.Findings.{finding_view};
+ghost use Rattle.tera_templates.specs.Ignores.{ignores_view};
 ghost use Rattle.tera_check.specs.Silenced.{AreLinesOf, is_silenced, is_silenced_at};
 
-use crate::finding::{Finding, Kind, push_finding};
-use crate::mended::Mended;
 use crate::silenced::{Lines, has_line, silenced_lines};
-use crate::templates::Template;
 use std::alloc::{AllocError, Global};
 use std::collections::BTreeSet;
+use tera_findings::{Finding, Kind, push_finding};
 use tera_parser::value::Span;
+use tera_templates::{Mended, Template, is_same_part, text_at};
 
 /// Adds the findings that are due; those that an ignore of the template silences are not. `is_open` says that a text
 /// may define more components than are known.
@@ -91,19 +89,6 @@ fn is_written(mended: &Mended, finding: &Finding) -> bool
     is_same_part(mended.source.as_str(), mended.text.as_str(), start, end)
 }
 
-/// Whether two texts have the same bytes from `start` on and before `end`.
-pub(crate) fn is_same_part(one: &str, other: &str, start: usize, end: usize) -> bool
-    ensures { result ≡ is_same_part one.now other.now (start, end) }
-{
-    let Some(part) = one.as_bytes().get(start..end) else {
-        return false;
-    };
-    let Some(there) = other.as_bytes().get(start..end) else {
-        return false;
-    };
-    part == there
-}
-
 // The first byte that the finding is about, and the byte after the last. For a call it is only its `<`, as its body may
 // have faults.
 fn mark_of(finding: &Finding) -> (usize, usize)
@@ -146,23 +131,6 @@ fn name_at<'m>(mended: &'m Mended, span: &Span) -> Option<&'m str>
     ensures { option_map (λ n. n.now) result ≡ name_at mended.now span.now }
 {
     text_at(mended.source.as_str(), span.range.start, span.range.end)
-}
-
-/// What the text has between these bytes, if they are between characters.
-pub(crate) fn text_at(text: &str, start: usize, end: usize) -> Option<&str>
-    ensures { option_map (λ n. n.now) result ≡ text_at text.now (start, end) }
-{
-    if is_boundary(text, start) && is_boundary(text, end) {
-        text.get(start..end)
-    } else {
-        None
-    }
-}
-
-fn is_boundary(text: &str, at: usize) -> bool
-    ensures { result ≡ is_boundary text.now at }
-{
-    text.is_char_boundary(at)
 }
 
 // The end of the definition that contains this byte.

@@ -2,14 +2,14 @@
 
 ghost use Rattle.std.specs.Prelude.{◌≡◌, IfOk};
 ghost use Rattle.tera_check.specs.Found.{AreFound, IsFoundOf, known_by};
-ghost use Rattle.tera_check.specs.Lost.{are_open};
+ghost use Rattle.tera_templates.specs.Lost.{are_open};
 ghost use Rattle.tera_check.specs.Named.{known_in};
 
 use crate::catalogue::{Catalogue, catalogue_of};
 use crate::checked::{faults_of, findings_of, put_in_order};
-use crate::finding::Finding;
-use crate::templates::{Template, is_open};
 use std::alloc::{AllocError, Global};
+use tera_findings::Finding;
+use tera_templates::{Template, is_open};
 
 /// What is found in one template.
 #[derive(Drop)]
@@ -22,7 +22,7 @@ pub struct Found<'a> {
 impl<'a> Found<'a> {
     ghost use Rattle.std.specs.Prelude.{OnOk, map};
     ghost use Rattle.tera_check.specs.Added.{IsWith};
-    ghost use Rattle.tera_check.specs.Findings.{finding_view};
+    ghost use Rattle.tera_findings.specs.Findings.{finding_view};
 
     /// Adds more findings to those of the template, all in the order of the places.
     pub(crate) fn add(&mut self, mut more: Vec<Finding>) -> Result<(), AllocError>

@@ -11,14 +11,14 @@ ghost use Rattle.tera_lexer.specs.grammar.Tokens.{fault_text};
 ghost use Rattle.tera_tree.specs.Tree.{Output};
 ghost use Rattle.tera_check.specs.Alike.{names_in, AgreeOn};
 ghost use Rattle.tera_check.specs.Due.{due_findings, is_lost_in, is_undefined, mark_of, name_at};
-ghost use Rattle.tera_check.specs.Findings.{FindingOf, FindingVal, NoteVal, hint_of, float_hint};
-ghost use Rattle.tera_check.specs.Judged.{KnownVal};
-ghost use Rattle.tera_check.specs.Mended.{IsMended};
+ghost use Rattle.tera_findings.specs.Findings.{FindingOf, FindingVal, NoteVal, hint_of, float_hint};
+ghost use Rattle.tera_rules.specs.Judged.{KnownVal};
+ghost use Rattle.tera_templates.specs.Mended.{IsMended};
 ghost use Rattle.tera_check.specs.Named.{tree_findings};
 ghost use Rattle.tera_check.specs.Silenced.{is_silenced, unused_ignores};
-ghost use Rattle.tera_check.specs.declared.finding.Kind.TheVariants.{UnusedParameter};
-ghost use Rattle.tera_check.specs.declared.mended.Mended.{Mended};
-ghost use Rattle.tera_check.specs.declared.templates.Template.{Template};
+ghost use Rattle.tera_findings.specs.declared.finding.Kind.TheVariants.{UnusedParameter};
+ghost use Rattle.tera_templates.specs.declared.mended.Mended.{Mended};
+ghost use Rattle.tera_templates.specs.declared.templates.Template.{Template};
 
 /// What is found in a tree depends on what is known under the names that it defines and calls: the name of each
 /// component, its parameters, its file and its span there, whether it is in this template, whatever the number of that

@@ -3,8 +3,8 @@
 ghost use Rattle.std.specs.Prelude.{◌≡◌, filter, map};
 ghost use Rattle.tera_check.specs.Levels.{AreReportedOf, at_level, has_rule, is_fault, is_on, level_of, reported, selected_by, set_level};
 
-use crate::finding::{Finding, Kind, Severity};
 use crate::found::Found;
+use tera_findings::{Finding, Kind, Severity};
 
 /// What a rule is set to. Without a level its findings are off.
 #[derive(Clone, Copy, Debug)]

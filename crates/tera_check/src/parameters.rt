@@ -9,26 +9,25 @@ ghost use Rattle.tera_ast.specs.declared.ast.ComponentCall.{out-ComponentCall};
 ghost use Rattle.tera_ast.specs.declared.ast.ForLoop.{out-ForLoop};
 ghost use Rattle.tera_tree.specs.Parts.{part_view, parts_view, parts_of_nodes, parts_of_maybe, ExpressionPart};
 ghost use Rattle.tera_tree.specs.View.{definition_view};
-ghost use Rattle.tera_check.specs.Findings.{finding_view, span_if_any};
-ghost use Rattle.tera_check.specs.Judged.{known_view, taken_by};
+ghost use Rattle.tera_findings.specs.Findings.{finding_view, span_if_any};
+ghost use Rattle.tera_rules.specs.Judged.{known_view, taken_by};
 ghost use Rattle.tera_check.specs.Named.{known_in, taken_in};
 ghost use Rattle.tera_check.specs.Parameters.{Taking, binds, variable_names, named_in, named_in_node, named_in_nodes, named_in_maybe, may_be_unused, parameter_at, unused, unused_if, unused_of, unused_rest, unused_in};
 ghost use Rattle.tera_check.specs.Scopes.{is_hidden, named_in_part, named_in_parts, named_in_scope, is_to_come, is_named, AreTaken};
 
-use crate::catalogue::{Catalogue, Known};
-use crate::finding::{Finding, Kind, push_finding};
+use crate::catalogue::Catalogue;
 use crate::messages::unused_parameter;
-use crate::repeated::{Spans, put_span};
-use crate::spans::first_span;
-use crate::templates::Template;
 use std::alloc::{AllocError, Global};
 use std::collections::BTreeMap;
+use tera_findings::{Finding, Kind, first_span, push_finding};
 use tera_parser::ParserOutput;
 use tera_parser::ast::{
     ComponentCall, ComponentDefinition, Expression, ForLoop, ListComprehension, Node, Part, Parts,
     Var, push_nodes,
 };
 use tera_parser::value::{Span, Spanned};
+use tera_rules::{Known, Spans, put_span};
+use tera_templates::Template;
 
 /// Adds a finding for each parameter that nothing in the body of its component names, at the place of the parameter.
 pub(crate) fn push_all_unused(

@@ -5,18 +5,16 @@ ghost use Rattle.std.specs.BTreeSet.{keys};
 ghost use Rattle.std.specs.Bool.{Decides};
 ghost use Rattle.std.specs.List.{Contains, find, list_any};
 ghost use Rattle.std.specs.Str.{bytes_eq};
-ghost use Rattle.tera_check.specs.Findings.{FindingVal, finding_view, kind_name};
-ghost use Rattle.tera_check.specs.Ignores.{ignore_view, ignores_view};
-ghost use Rattle.tera_check.specs.Lost.{places_under};
+ghost use Rattle.tera_findings.specs.Findings.{FindingVal, finding_view, kind_name};
+ghost use Rattle.tera_templates.specs.Ignores.{ignore_view, ignores_view};
+ghost use Rattle.tera_templates.specs.Lost.{places_under};
 ghost use Rattle.tera_check.specs.Silenced.{AreLinesOf, has_finding_at, is_judged, is_known_kind, is_silenced_at, is_unused, kind_named, next_line, not_a_rule_text, silences, silences_at, unused_among, unused_ignore, unused_ignore_text, unused_ignores};
 
-use crate::finding::{Finding, KINDS, Kind, push_finding};
-use crate::ignores::Ignore;
-use crate::lost::put_place;
 use crate::messages;
-use crate::templates::Template;
 use std::alloc::{AllocError, Global};
 use std::collections::{BTreeMap, BTreeSet};
+use tera_findings::{Finding, KINDS, Kind, push_finding};
+use tera_templates::{Ignore, Template, put_place};
 
 /// Lines, by the names of rules.
 pub(crate) type Lines = BTreeMap<String, BTreeSet<usize>>;

@@ -6,20 +6,20 @@ ghost use Rattle.tera_tree.specs.Outputs.{output_view};
 ghost use Rattle.tera_tree.specs.Parts.{part_view, parts_view};
 ghost use Rattle.tera_check.specs.Added.{IsAddedAt, IsWith};
 ghost use Rattle.tera_check.specs.Due.{is_due};
-ghost use Rattle.tera_check.specs.Findings.{finding_view};
-ghost use Rattle.tera_check.specs.Registered.{registered_view};
+ghost use Rattle.tera_findings.specs.Findings.{finding_view};
+ghost use Rattle.tera_rules.specs.Registered.{registered_view};
 ghost use Rattle.tera_check.specs.Unknown.{AreWithUnknown, due_unknown, unknown_findings, unknown_if, unknown_in, unknown_kind, unknown_text};
-ghost use Rattle.tera_check.specs.Within.{all_parts};
+ghost use Rattle.tera_rules.specs.Within.{all_parts};
 
 use crate::due::push_due;
-use crate::finding::{Finding, Kind, push_finding};
 use crate::found::Found;
-use crate::registered::{Registered, Registry};
-use crate::templates::{Template, tree_of};
 use std::alloc::{AllocError, Global};
+use tera_findings::{Finding, Kind, push_finding};
 use tera_parser::ParserOutput;
 use tera_parser::ast::{Expression, Part, Parts, top_parts};
 use tera_parser::value::Span;
+use tera_rules::registered::{Registered, Registry};
+use tera_templates::{Template, tree_of};
 
 /// Adds, to what is found in each of the first `checked` templates, the filters, tests and functions there that the
 /// program does not have. What is found is in the order of the templates.

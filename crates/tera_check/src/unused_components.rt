@@ -3,25 +3,26 @@
 ghost use Rattle.std.specs.Prelude.{◌≡◌, ◌++◌, ◌||◌, ℕ, List, map, string_bytes, IfOk, OnOk};
 ghost use Rattle.std.specs.List.{list_any};
 ghost use Rattle.tera_check.specs.Added.{IsAddedAt, IsWith};
-ghost use Rattle.tera_check.specs.Findings.{finding_view};
-ghost use Rattle.tera_check.specs.Named.{definitions_of, span_at};
-ghost use Rattle.tera_check.specs.Pending.{seen};
-ghost use Rattle.tera_check.specs.Registered.{has_name};
+ghost use Rattle.tera_findings.specs.Findings.{finding_view};
+ghost use Rattle.tera_templates.specs.Templates.{definitions_of};
+ghost use Rattle.tera_check.specs.Named.{span_at};
+ghost use Rattle.tera_rules.specs.Pending.{seen};
+ghost use Rattle.tera_rules.specs.Registered.{has_name};
 ghost use Rattle.tera_check.specs.UnusedComponents.{AreWithUnusedComponents, due_unused_components, is_call_of, is_called, may_be_called, may_call, unused_component, unused_component_if, unused_components};
 
-use crate::calls::calls_of;
 use crate::catalogue::defined_at;
 use crate::due::push_due;
-use crate::finding::{Finding, Kind, push_finding};
 use crate::found::Found;
 use crate::messages;
 use crate::parameters::may_be_unused;
-use crate::registered::{Names, put_name};
-use crate::templates::{Template, definitions_of};
 use std::alloc::{AllocError, Global};
 use std::collections::BTreeSet;
+use tera_findings::{Finding, Kind, push_finding};
 use tera_parser::ast::ComponentCall;
 use tera_parser::value::{Span, Spanned};
+use tera_rules::calls_of;
+use tera_rules::registered::{Names, put_name};
+use tera_templates::{Template, definitions_of};
 
 // The components that templates call.
 #[derive(Drop)]

@@ -3,7 +3,7 @@ use Rattle.std.proofs.Common.{◌≡◌, ◌∙◌, ◌+◌, ◌<◌, ℕ, Bool,
 use Rattle.std.specs.Prelude.{◌||◌}
 use Rattle.std.specs.List.{list_any}
 use Rattle.std.proofs.lemmas.List.{take_more}
-use Rattle.tera_check.specs.declared.finding.Finding.{Finding}
+use Rattle.tera_findings.specs.declared.finding.Finding.{Finding}
 use Rattle.tera_fixes.specs.Better.{has_message}
 
 only : (b : Bool) → (b || false) ≡ cond b true false

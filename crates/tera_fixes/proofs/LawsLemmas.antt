@@ -8,11 +8,11 @@ use Rattle.std.proofs.lemmas.Bool.{cases_Bool, false≢true}
 use Rattle.std.proofs.lemmas.Bool.Decides.{nat_tests}
 use Rattle.std.proofs.lemmas.Option.{none-some, same_Some}
 use Rattle.tera_base.specs.declared.utils.Span.{Span}
-use Rattle.tera_check.specs.Boundaries.{is_boundary}
-use Rattle.tera_check.specs.Findings.{FindingOf, FindingVal, FoundAs}
-use Rattle.tera_check.specs.Judged.{KnownVal}
-use Rattle.tera_check.specs.declared.finding.Kind.{Kind}
-use Rattle.tera_check.specs.declared.finding.Kind.TheVariants as kinds
+use Rattle.tera_templates.specs.Boundaries.{is_boundary}
+use Rattle.tera_findings.specs.Findings.{FindingOf, FindingVal, FoundAs}
+use Rattle.tera_rules.specs.Judged.{KnownVal}
+use Rattle.tera_findings.specs.declared.finding.Kind.{Kind}
+use Rattle.tera_findings.specs.declared.finding.Kind.TheVariants as kinds
 use Rattle.tera_fixes.specs.Attributes.{AttributeVal, CallVal, attribute_at, call_at, passes}
 use Rattle.tera_fixes.specs.Laws.{IsPartOf}
 use Rattle.tera_fixes.specs.Meant.{has_at_most, is_meant, meant, meant_among}

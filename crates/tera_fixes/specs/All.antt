@@ -7,15 +7,16 @@ use Rattle.tera_base.specs.declared.utils.Spanned.{Spanned}
 use Rattle.tera_ast.specs.declared.ast.ComponentCall.{ComponentCall}
 use Rattle.tera_tree.specs.Outputs.{output_view}
 use Rattle.tera_tree.specs.declared.outputs.ParserOutput.{ParserOutput}
-use Rattle.tera_check.specs.Calls.{calls_of}
-use Rattle.tera_check.specs.Findings.{finding_view}
-use Rattle.tera_check.specs.Named.{known_in, tree_of}
-use Rattle.tera_check.specs.Pending.{seen}
-use Rattle.tera_check.specs.declared.catalogue.Known.{Known}
-use Rattle.tera_check.specs.declared.finding.Finding.{Finding}
-use Rattle.tera_check.specs.declared.finding.Kind.{Kind}
-use Rattle.tera_check.specs.declared.finding.Kind.TheVariants as kinds
-use Rattle.tera_check.specs.declared.templates.Template.{Template}
+use Rattle.tera_rules.specs.Calls.{calls_of}
+use Rattle.tera_findings.specs.Findings.{finding_view}
+use Rattle.tera_check.specs.Named.{known_in}
+use Rattle.tera_templates.specs.Templates.{tree_of}
+use Rattle.tera_rules.specs.Pending.{seen}
+use Rattle.tera_rules.specs.declared.known.Known.{Known}
+use Rattle.tera_findings.specs.declared.finding.Finding.{Finding}
+use Rattle.tera_findings.specs.declared.finding.Kind.{Kind}
+use Rattle.tera_findings.specs.declared.finding.Kind.TheVariants as kinds
+use Rattle.tera_templates.specs.declared.templates.Template.{Template}
 use Rattle.tera_fixes.specs.Names.{component_names}
 use Rattle.tera_fixes.specs.Suggestions.{ContextVal, SuggestionVal, suggestion_of}
 

@@ -3,9 +3,9 @@ use Rattle.std.specs.Prelude.{◌≡◌, ◌-◌, ℕ, List, Bool, true, false, 
 use Rattle.std.specs.List.{list_all, list_any}
 use Rattle.std.specs.Result.{is_ok}
 use Rattle.tera_check.specs.Found.{IsAllOf}
-use Rattle.tera_check.specs.Judged.{KnownVal}
-use Rattle.tera_check.specs.declared.finding.Finding.{Finding}
-use Rattle.tera_check.specs.declared.templates.Template.{Template}
+use Rattle.tera_rules.specs.Judged.{KnownVal}
+use Rattle.tera_findings.specs.declared.finding.Finding.{Finding}
+use Rattle.tera_templates.specs.declared.templates.Template.{Template}
 
 -- one of the findings has the message
 abbrev pub has_message : List Finding → List ℕ → Bool

@@ -2,7 +2,7 @@
 use Rattle.std.specs.Prelude.{ℕ, List, [], ◌∷◌, ◌++◌, Option, None, Some, Bool, ◌&&◌, if◌then◌else◌, drop, map, nat_le, slice_range, string_bytes}
 use Rattle.std.specs.List.Sorted.{IsSortedByKey}
 use Rattle.std.specs.Ordering.{nat_cmp}
-use Rattle.tera_check.specs.Boundaries.{is_boundary}
+use Rattle.tera_templates.specs.Boundaries.{is_boundary}
 use Rattle.tera_fixes.specs.Suggestions.{SuggestionVal}
 use Rattle.tera_fixes.specs.declared.edits.Edit.{Edit}
 use Rattle.tera_fixes.specs.declared.parts.Part.{Part}

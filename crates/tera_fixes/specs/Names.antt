@@ -4,7 +4,7 @@ use Rattle.std.specs.declared.alloc.Global.{Global}
 use Rattle.std.specs.BTreeMap.{BTreeMap}
 use Rattle.std.specs.List.{filter}
 use Rattle.std.specs.Map.{keys_of}
-use Rattle.tera_check.specs.declared.catalogue.Known.{Known}
+use Rattle.tera_rules.specs.declared.known.Known.{Known}
 use Rattle.tera_tree.specs.Tree.{Definition}
 use Rattle.tera_fixes.specs.Attributes.{CallVal, passes}
 

@@ -3,7 +3,7 @@ use Rattle.std.specs.Prelude.{ℕ, ◌+◌, ◌-◌, List, [], ◌∷◌, Bool, 
 use Rattle.std.specs.Char.{is_ascii_whitespace}
 use Rattle.std.specs.List.{list_any, prefix_len}
 use Rattle.std.specs.Option.{option_and_then}
-use Rattle.tera_check.specs.Boundaries.{bytes_between, has_bytes, is_boundary}
+use Rattle.tera_templates.specs.Boundaries.{bytes_between, has_bytes, is_boundary}
 use Rattle.tera_fixes.specs.declared.parts.Part.{Part}
 
 -- what may be between the name of a component or an argument and the place of a finding

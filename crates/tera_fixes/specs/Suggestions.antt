@@ -5,11 +5,11 @@ use Rattle.std.specs.Option.{option_and_then, option_map}
 use Rattle.tera_base.specs.declared.utils.Span.{Span}
 use Rattle.tera_base.specs.declared.utils.Spanned.{Spanned}
 use Rattle.tera_ast.specs.declared.ast.ComponentCall.{ComponentCall}
-use Rattle.tera_check.specs.Findings.{FindingVal, FoundAs}
-use Rattle.tera_check.specs.Judged.{KnownVal}
+use Rattle.tera_findings.specs.Findings.{FindingVal, FoundAs}
+use Rattle.tera_rules.specs.Judged.{KnownVal}
 use Rattle.tera_check.specs.Named.{known_in}
-use Rattle.tera_check.specs.declared.finding.Kind.{Kind}
-use Rattle.tera_check.specs.declared.finding.Kind.TheVariants as kinds
+use Rattle.tera_findings.specs.declared.finding.Kind.{Kind}
+use Rattle.tera_findings.specs.declared.finding.Kind.TheVariants as kinds
 use Rattle.tera_fixes.specs.Attributes.{AttributeVal, CallVal, attribute_at, call_at}
 use Rattle.tera_fixes.specs.Meant.{meant}
 use Rattle.tera_fixes.specs.Names.{component_names, free_parameters}

@@ -2,8 +2,8 @@
 
 ghost use Rattle.std.specs.Prelude.{◌≡◌, ◌∷◌, ◌++◌, List, filter, length, map, IfOk};
 ghost use Rattle.std.specs.Option.{option_map};
-ghost use Rattle.tera_check.specs.Named.{tree_of};
-ghost use Rattle.tera_check.specs.declared.finding.Finding.{Finding as AFinding};
+ghost use Rattle.tera_templates.specs.Templates.{tree_of};
+ghost use Rattle.tera_findings.specs.declared.finding.Finding.{Finding as AFinding};
 ghost use Rattle.tera_fixes.specs.All.{AreCallsIn, AreSuggestedIn, are_too_many, is_suggestible, is_wanted, suggested};
 ghost use Rattle.tera_fixes.specs.Components.{AreMeanings};
 ghost use Rattle.tera_fixes.specs.Names.{component_names};

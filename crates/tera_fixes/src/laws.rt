@@ -3,9 +3,9 @@
 ghost use Rattle.std.specs.Prelude.{◌≡◌, ℕ, List, All, Some};
 ghost use Rattle.std.specs.List.{Contains};
 ghost use Rattle.tera_base.specs.declared.utils.Span.{Span};
-ghost use Rattle.tera_check.specs.Findings.{FindingOf, FindingVal, NoteVal};
-ghost use Rattle.tera_check.specs.Judged.{KnownVal};
-ghost use Rattle.tera_check.specs.declared.finding.Kind.TheVariants.{UndefinedComponent, UnknownArgument};
+ghost use Rattle.tera_findings.specs.Findings.{FindingOf, FindingVal, NoteVal};
+ghost use Rattle.tera_rules.specs.Judged.{KnownVal};
+ghost use Rattle.tera_findings.specs.declared.finding.Kind.TheVariants.{UndefinedComponent, UnknownArgument};
 ghost use Rattle.tera_fixes.specs.Laws.{IsPartOf};
 ghost use Rattle.tera_fixes.specs.Names.{parameter_names};
 ghost use Rattle.tera_fixes.specs.Suggestions.{ContextVal, SuggestionVal, suggestion_of};

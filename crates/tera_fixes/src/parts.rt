@@ -2,7 +2,7 @@
 
 ghost use Rattle.std.specs.Prelude.{◌≡◌, ◌≤◌, ◌+◌, drop, length};
 ghost use Rattle.std.specs.List.{prefix_len};
-ghost use Rattle.tera_check.specs.Boundaries.{is_boundary};
+ghost use Rattle.tera_templates.specs.Boundaries.{is_boundary};
 ghost use Rattle.tera_fixes.specs.Parts.{argument_end, argument_part, between_characters, has_equals, has_room, is_closing, is_mark, name_before, part_after, part_at, part_before, part_ending, without_marks};
 
 /// The bytes of a text from `start` on and before `end`.

@@ -2,7 +2,7 @@
 
 ghost use Rattle.std.specs.Prelude.{◌≡◌, IfOk};
 ghost use Rattle.std.specs.Option.{option_map};
-ghost use Rattle.tera_check.specs.Findings.{finding_view};
+ghost use Rattle.tera_findings.specs.Findings.{finding_view};
 ghost use Rattle.tera_check.specs.Named.{known_in};
 ghost use Rattle.tera_fixes.specs.Attributes.{attribute_view, call_view};
 ghost use Rattle.tera_fixes.specs.Components.{AreMeanings};

@@ -7,10 +7,10 @@ use Rattle.std.proofs.lemmas.Slice.Eq.{bytes_eq-Decides}
 use Rattle.tera_lexer.specs.grammar.Marks.{Marks}
 use Rattle.tera_check.specs.Found.{IsAllOf}
 use Rattle.tera_check.specs.Named.{known_in}
-use Rattle.tera_check.specs.declared.catalogue.Known.{Known}
-use Rattle.tera_check.specs.declared.finding.Finding.{Finding}
+use Rattle.tera_rules.specs.declared.known.Known.{Known}
+use Rattle.tera_findings.specs.declared.finding.Finding.{Finding}
 use Rattle.tera_check.specs.declared.levels.Levels.{Levels}
-use Rattle.tera_check.specs.declared.templates.Template.{Template}
+use Rattle.tera_templates.specs.declared.templates.Template.{Template}
 use Rattle.tera_files.specs.declared.reading.Source.{Source}
 use Rattle.tera_fixes.specs.All.{AreSuggestedIn, are_too_many}
 use Rattle.tera_fixes.specs.Better.{HasFewer}

@@ -4,7 +4,7 @@ use Rattle.std.proofs.lemmas.List.{drop_more}
 use Rattle.std.proofs.lemmas.Option.{slice_get_past, slice_get_read}
 use Rattle.std.specs.List.{flat_map}
 use Rattle.std.specs.Slice.{IsItemAt}
-use Rattle.tera_check.specs.Findings.{FindingVal}
+use Rattle.tera_findings.specs.Findings.{FindingVal}
 use Rattle.tera_check.specs.Found.{FoundVal}
 use Rattle.tera_jobs.specs.Forms.{all_from, each_from}
 

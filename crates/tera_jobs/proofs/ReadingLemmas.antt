@@ -1,11 +1,11 @@
 -- A template that was read.
 use Rattle.std.proofs.Common.{◌≡◌, ℕ, List, None, Option, Result, Ok, Err, IfOk, IfErr, IfSome, string_bytes, subst, sym}
 use Rattle.std.specs.declared.alloc.AllocError.{AllocError}
-use Rattle.tera_check.specs.Bodies.{HasHidden}
-use Rattle.tera_check.specs.Ignores.{AreIgnoresIn}
-use Rattle.tera_check.specs.Mended.{IsMended}
-use Rattle.tera_check.specs.declared.mended.Mended.{Mended}
-use Rattle.tera_check.specs.declared.templates.Template.{Template}
+use Rattle.tera_templates.specs.Templates.{HasHidden}
+use Rattle.tera_templates.specs.Ignores.{AreIgnoresIn}
+use Rattle.tera_templates.specs.Mended.{IsMended}
+use Rattle.tera_templates.specs.declared.mended.Mended.{Mended}
+use Rattle.tera_templates.specs.declared.templates.Template.{Template}
 use Rattle.tera_grammar.specs.Limits.{usual}
 use Rattle.tera_grammar.specs.statements.Top.{Derives}
 use Rattle.tera_lexer.specs.grammar.Marks.{Marks}

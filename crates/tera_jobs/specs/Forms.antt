@@ -3,8 +3,8 @@ use Rattle.std.specs.Prelude.{ℕ, suc, List, [], ◌∷◌, ◌++◌, Option, N
 use Rattle.std.specs.List.{flat_map}
 use Rattle.json.specs.Token.{Token}
 use Rattle.json.specs.Print.{print}
-use Rattle.tera_check.specs.Findings.{FindingVal, FoundAs}
-use Rattle.tera_check.specs.Objects.{object_of, unread_object}
+use Rattle.tera_findings.specs.Findings.{FindingVal, FoundAs}
+use Rattle.tera_findings.specs.Objects.{object_of, unread_object}
 use Rattle.tera_report.specs.Annotations.{annotation}
 use Rattle.tera_report.specs.Logs.{log_begin, log_end, result_object}
 use Rattle.tera_report.specs.FullTexts.{full_text, help_line, lines_of}

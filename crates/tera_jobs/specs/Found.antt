@@ -1,9 +1,9 @@
 -- How many findings there are in templates, and whether there is an error.
 use Rattle.std.specs.Prelude.{ℕ, ◌^◌, ◌-◌, min, List, Bool, true, false, nat_lt, length}
 use Rattle.std.specs.List.{count_by, list_any, sum_by}
-use Rattle.tera_check.specs.declared.finding.Finding.{Finding}
-use Rattle.tera_check.specs.declared.finding.Severity.{Severity}
-use Rattle.tera_check.specs.declared.finding.Severity.TheVariants as severities
+use Rattle.tera_findings.specs.declared.finding.Finding.{Finding}
+use Rattle.tera_findings.specs.declared.finding.Severity.{Severity}
+use Rattle.tera_findings.specs.declared.finding.Severity.TheVariants as severities
 use Rattle.tera_check.specs.declared.found.Found.{Found}
 
 abbrev pub is_faulty : Found → Bool

@@ -5,9 +5,9 @@ use Rattle.std.specs.BTreeMap.{BTreeMap}
 use Rattle.std.specs.Option.{option_and_then, option_map}
 use Rattle.tera_check.specs.Found.{known_by}
 use Rattle.tera_check.specs.Named.{known_in}
-use Rattle.tera_check.specs.declared.catalogue.Known.{Known}
+use Rattle.tera_rules.specs.declared.known.Known.{Known}
 use Rattle.tera_check.specs.declared.found.Found.{Found}
-use Rattle.tera_check.specs.declared.templates.Template.{Template}
+use Rattle.tera_templates.specs.declared.templates.Template.{Template}
 use Rattle.tera_files.specs.declared.reading.Source.{Source}
 use Rattle.tera_fixes.specs.All.{AreSuggestedIn}
 use Rattle.tera_fixes.specs.Suggestions.{suggestion_view}

@@ -5,18 +5,18 @@ use Rattle.std.specs.Io.KnownBytes.{Appends, Keeps}
 use Rattle.std.specs.List.{list_any}
 use Rattle.std.specs.declared.io.Error.{Error}
 use Rattle.tera_check.specs.Levels.{AreReportedOf}
-use Rattle.tera_check.specs.Registered.{RegisteredVal}
+use Rattle.tera_rules.specs.Registered.{RegisteredVal}
 use Rattle.tera_check.specs.Unknown.{AreWithUnknown}
 use Rattle.tera_check.specs.UnusedComponents.{AreWithUnusedComponents}
-use Rattle.tera_check.specs.declared.finding.Kind.{Kind}
-use Rattle.tera_check.specs.declared.finding.Kind.TheVariants as kinds
-use Rattle.tera_check.specs.declared.finding.Severity.{Severity}
-use Rattle.tera_check.specs.declared.templates.Template.{Template}
+use Rattle.tera_findings.specs.declared.finding.Kind.{Kind}
+use Rattle.tera_findings.specs.declared.finding.Kind.TheVariants as kinds
+use Rattle.tera_findings.specs.declared.finding.Severity.{Severity}
+use Rattle.tera_templates.specs.declared.templates.Template.{Template}
 use Rattle.terminal_text.specs.declared.style.Style.{Style}
 use Rattle.tera_files.specs.declared.reading.Source.{Source}
 use Rattle.tera_jobs.specs.Forms.{text_of}
 use Rattle.tera_jobs.specs.Helps.{AreHelps, Help, help_in}
-use Rattle.tera_check.specs.Lost.{are_open}
+use Rattle.tera_templates.specs.Lost.{are_open}
 use Rattle.tera_check.specs.Found.{AreFound, found_view, known_by}
 use Rattle.tera_jobs.specs.Found.{count_in, faulty_in, is_wrong}
 use Rattle.tera_jobs.specs.Sources.{Known, UnreadVal, nothing, unreadable_view, with_sources}

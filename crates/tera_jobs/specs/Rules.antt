@@ -1,7 +1,7 @@
 -- The rules of findings, as they are explained.
 use Rattle.std.specs.Prelude.{ℕ, List, ◌++◌, codes}
-use Rattle.tera_check.specs.Findings.{kind_name, severity_name, severity_of}
-use Rattle.tera_check.specs.declared.finding.Kind.{Kind}
+use Rattle.tera_findings.specs.Findings.{kind_name, severity_name, severity_of}
+use Rattle.tera_findings.specs.declared.finding.Kind.{Kind}
 
 -- the line above the section of a rule: its name and its severity
 abbrev pub heading : Kind → List ℕ

@@ -1,9 +1,9 @@
 -- Sources by the names of their files, and the templates that are read from them.
 use Rattle.std.specs.Prelude.{◌≡◌, ◌++◌, ℕ, List, [], ◌∷◌, Bool, true, false, Option, None, Some, IfErr, IfOk, IfSome, if◌then◌else◌, bytes_eq, map, string_bytes}
-use Rattle.tera_check.specs.Bodies.{HasHidden}
-use Rattle.tera_check.specs.Ignores.{AreIgnoresIn}
-use Rattle.tera_check.specs.Mended.{IsMended}
-use Rattle.tera_check.specs.declared.templates.Template.{Template}
+use Rattle.tera_templates.specs.Templates.{HasHidden}
+use Rattle.tera_templates.specs.Ignores.{AreIgnoresIn}
+use Rattle.tera_templates.specs.Mended.{IsMended}
+use Rattle.tera_templates.specs.declared.templates.Template.{Template}
 use Rattle.tera_files.specs.declared.reading.Source.{Source}
 use Rattle.tera_grammar.specs.Limits.{usual}
 use Rattle.tera_grammar.specs.statements.Top.{Derives}

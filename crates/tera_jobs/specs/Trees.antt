@@ -2,13 +2,13 @@
 use Rattle.std.specs.Prelude.{◌≡◌, ℕ, Bool, true, false, List, [], Option, None, Some, Result, Ok, Err, IfSome, MatchResult, map, option_map, string_bytes}
 use Rattle.std.specs.List.{flat_map}
 use Rattle.tera_base.specs.declared.errors.Error.{Error}
-use Rattle.tera_check.specs.FaultFindings.{AreFaultsOf}
-use Rattle.tera_check.specs.Findings.{FindingVal, finding_view}
-use Rattle.tera_check.specs.Mended.{text_of}
-use Rattle.tera_check.specs.Named.{tree_of}
+use Rattle.tera_templates.specs.FaultFindings.{AreFaultsOf}
+use Rattle.tera_findings.specs.Findings.{FindingVal, finding_view}
+use Rattle.tera_templates.specs.Mended.{text_of}
+use Rattle.tera_templates.specs.Templates.{tree_of}
 use Rattle.tera_check.specs.OrderAndStatus.{IsInOrder}
-use Rattle.tera_check.specs.declared.finding.Finding.{Finding}
-use Rattle.tera_check.specs.declared.templates.Template.{Template}
+use Rattle.tera_findings.specs.declared.finding.Finding.{Finding}
+use Rattle.tera_templates.specs.declared.templates.Template.{Template}
 use Rattle.tera_files.specs.declared.reading.Source.{Source}
 use Rattle.tera_grammar.specs.Limits.{usual}
 use Rattle.tera_grammar.specs.statements.Places.{Places}

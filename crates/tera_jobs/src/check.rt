@@ -9,7 +9,7 @@ ghost use Rattle.tera_jobs.specs.Counting.{checked_line};
 ghost use Rattle.tera_program_parts.specs.Views.{lists_view};
 ghost use Rattle.tera_jobs.specs.Sources.{nothing, unreadable_view, with_sources};
 ghost use Rattle.tera_check.specs.Levels.{level_of};
-ghost use Rattle.tera_check.specs.Registered.{registered_if_any};
+ghost use Rattle.tera_rules.specs.Registered.{registered_if_any};
 ghost use Rattle.tera_jobs.specs.Report.{IsChecked, IsReported, counts_of, ended_of};
 ghost use Rattle.tera_program_parts.specs.Settings.{or_none};
 

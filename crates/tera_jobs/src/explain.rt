@@ -1,7 +1,7 @@
 //! `tera explain`.
 
 ghost use Rattle.std.specs.Prelude.{◌≡◌, ◌++◌, IfOk, IfSome, string_bytes};
-ghost use Rattle.tera_check.specs.Findings.{kind_name};
+ghost use Rattle.tera_findings.specs.Findings.{kind_name};
 ghost use Rattle.tera_jobs.specs.Rules.{heading};
 
 use std::alloc::{AllocError, Global};

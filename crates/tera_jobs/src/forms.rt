@@ -5,7 +5,7 @@ ghost use Rattle.json.specs.Print.{print};
 ghost use Rattle.json_members.specs.Written.{Puts};
 ghost use Rattle.std.specs.List.{flat_map};
 ghost use Rattle.std.specs.Option.{option_map};
-ghost use Rattle.tera_check.specs.Findings.{finding_view};
+ghost use Rattle.tera_findings.specs.Findings.{finding_view};
 ghost use Rattle.tera_report.specs.Logs.{result_object};
 ghost use Rattle.terminal_text.specs.Files.{source_of};
 ghost use Rattle.tera_report.specs.Unread.{unread_result};

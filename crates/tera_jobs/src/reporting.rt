@@ -5,7 +5,7 @@ ghost use Rattle.std.specs.Io.KnownBytes.{Keeps};
 ghost use Rattle.terminal_text.specs.Files.{source_of};
 ghost use Rattle.tera_jobs.specs.Sources.{unreadable_view};
 ghost use Rattle.tera_check.specs.Levels.{level_of};
-ghost use Rattle.tera_check.specs.Registered.{registered_if_any};
+ghost use Rattle.tera_rules.specs.Registered.{registered_if_any};
 ghost use Rattle.tera_jobs.specs.Report.{AreAllFound, AreWithNames, AreWithUnknownIf, AreWithUnusedIf, IsReported, looks_for_unused};
 
 use crate::forms::text_of;

@@ -2,8 +2,8 @@
 
 ghost use Rattle.std.specs.Prelude.{◌≡◌, ◌++◌, map, option_map, IfOk, IfSome, OnOk, string_bytes};
 ghost use Rattle.std.specs.List.{flat_map};
-ghost use Rattle.tera_check.specs.Findings.{finding_view};
-ghost use Rattle.tera_check.specs.Named.{tree_of};
+ghost use Rattle.tera_findings.specs.Findings.{finding_view};
+ghost use Rattle.tera_templates.specs.Templates.{tree_of};
 ghost use Rattle.tera_lexer.specs.grammar.Marks.{IsValid, default_marks, marks_of};
 ghost use Rattle.tera_report.specs.FullTexts.{full_text};
 ghost use Rattle.tera_tree.specs.Outputs.{output_view};

@@ -4,7 +4,7 @@ use denote.Ref.{Bor}
 use Rattle.std.specs.List.{list_any}
 use Rattle.std.specs.Option.{option_or}
 use Rattle.clap.specs.Words.{Row, first_of, all_of}
-use Rattle.tera_check.specs.declared.finding.Severity.{Severity}
+use Rattle.tera_findings.specs.declared.finding.Severity.{Severity}
 use Rattle.tera_check.specs.declared.levels.Levels.{Levels}
 use Rattle.tera_program_parts.specs.Views.{lists_view, sets_view}
 use Rattle.tera_options.specs.declared.colours.Colours.{Colours}

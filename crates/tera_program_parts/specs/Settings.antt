@@ -5,9 +5,9 @@ use Rattle.std.specs.Fmt.{decimal}
 use Rattle.std.specs.declared.alloc.Global.{Global}
 use Rattle.tera_files.specs.Names.{texts}
 use Rattle.settings_files.specs.declared.unfit.WrongFile.{WrongFile}
-use Rattle.tera_check.specs.Registered.{AreListed, RegisteredVal}
-use Rattle.tera_check.specs.declared.finding.Severity.{Severity}
-use Rattle.tera_check.specs.declared.finding.Severity.TheVariants as severities
+use Rattle.tera_rules.specs.Registered.{AreListed, RegisteredVal}
+use Rattle.tera_findings.specs.declared.finding.Severity.{Severity}
+use Rattle.tera_findings.specs.declared.finding.Severity.TheVariants as severities
 use Rattle.tera_settings.specs.declared.settings.Known.{Known}
 use Rattle.tera_settings.specs.declared.settings.Level.{Level}
 use Rattle.tera_settings.specs.declared.settings.Level.TheVariants as levels

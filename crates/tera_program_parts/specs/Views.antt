@@ -1,7 +1,7 @@
 -- What is seen of lists of texts, and of what rules are set to.
 use Rattle.std.specs.Prelude.{ℕ, List, Option, map, option_map}
 use denote.Ref.{Bor}
-use Rattle.tera_check.specs.declared.finding.Severity.{Severity}
+use Rattle.tera_findings.specs.declared.finding.Severity.{Severity}
 use Rattle.tera_check.specs.declared.levels.RuleLevel.{RuleLevel}
 use Rattle.tera_files.specs.Names.{texts}
 

@@ -3,7 +3,7 @@
 ghost use Rattle.std.specs.Prelude.{◌≡◌, map, option_map, IfOk, string_bytes};
 ghost use Rattle.tera_files.specs.Names.{texts};
 ghost use Rattle.tera_settings.specs.Values.{text_view, texts_view};
-ghost use Rattle.tera_check.specs.Registered.{AreListed, list_view, registered_if_any, registered_view};
+ghost use Rattle.tera_rules.specs.Registered.{AreListed, list_view, registered_if_any, registered_view};
 ghost use Rattle.settings_files.specs.Paths.{all_led_from, led_from};
 ghost use Rattle.tera_program_parts.specs.Views.{lists_view, set_view};
 ghost use Rattle.tera_program_parts.specs.Settings.{AreRegistered, defaults_val, or_none, place_text, set_of, severity_at, site_val, words_val, words_view};

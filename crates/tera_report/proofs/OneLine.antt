@@ -10,11 +10,11 @@ use Rattle.std.specs.List.{flat_map, list_all, AllByRecursion}
 use Rattle.std.specs.Str.Parse.{AllDigits}
 use Rattle.line_text.specs.Line.{on_one_line}
 use Rattle.tera_base.specs.declared.utils.Span.{Span}
-use Rattle.tera_check.specs.declared.finding.Kind.{Kind}
-use Rattle.tera_check.specs.declared.finding.Kind.TheVariants as kinds
-use Rattle.tera_check.specs.declared.finding.Severity.{Severity}
-use Rattle.tera_check.specs.declared.finding.Severity.TheVariants.{Error, Warning}
-use Rattle.tera_check.specs.Findings.{NoteVal, FoundAs, kind_name}
+use Rattle.tera_findings.specs.declared.finding.Kind.{Kind}
+use Rattle.tera_findings.specs.declared.finding.Kind.TheVariants as kinds
+use Rattle.tera_findings.specs.declared.finding.Severity.{Severity}
+use Rattle.tera_findings.specs.declared.finding.Severity.TheVariants.{Error, Warning}
+use Rattle.tera_findings.specs.Findings.{NoteVal, FoundAs, kind_name}
 use Rattle.tera_report.specs.Annotations.{command_of, escaped_character, property_character, escaped, property, column_of, span_text, annotation, IsOneLine}
 
 abbrev Lacks : List ℕ → Type 0

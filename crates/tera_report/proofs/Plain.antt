@@ -3,7 +3,7 @@ use Rattle.std.proofs.Common.{◌≡◌, ℕ, List, [], ◌∷◌, ◌++◌, cod
 use Rattle.std.specs.List.{flat_map}
 use Rattle.line_text.specs.Line.{on_one_line}
 use Rattle.tera_base.specs.declared.utils.Span.{Span}
-use Rattle.tera_check.specs.Findings.{NoteVal, NoteOf, FindingVal, FoundAs, place_of}
+use Rattle.tera_findings.specs.Findings.{NoteVal, NoteOf, FindingVal, FoundAs, place_of}
 use Rattle.tera_report.specs.FullTexts.{word_of, message, message_line, note_text, full_text, line_of, note_line, lines_of}
 use Rattle.tera_report.specs.declared.role.Role.{Role}
 use Rattle.tera_report.specs.declared.role.Role.TheVariants.{Finding, Note}

@@ -4,9 +4,9 @@ use Rattle.std.specs.Fmt.{decimal}
 use Rattle.std.specs.List.{flat_map, AllByRecursion}
 use Rattle.line_text.specs.Line.{on_one_line}
 use Rattle.tera_base.specs.declared.utils.Span.{Span}
-use Rattle.tera_check.specs.Findings.{FindingVal, FoundAs, kind_name}
-use Rattle.tera_check.specs.declared.finding.Severity.{Severity}
-use Rattle.tera_check.specs.declared.finding.Severity.TheVariants.{Error, Warning}
+use Rattle.tera_findings.specs.Findings.{FindingVal, FoundAs, kind_name}
+use Rattle.tera_findings.specs.declared.finding.Severity.{Severity}
+use Rattle.tera_findings.specs.declared.finding.Severity.TheVariants.{Error, Warning}
 
 -- a character of a message
 abbrev pub escaped_character : ℕ → List ℕ

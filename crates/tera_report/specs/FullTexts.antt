@@ -2,10 +2,10 @@
 use Rattle.std.specs.Prelude.{ℕ, ◌==◌, if◌then◌else◌, List, [], ◌∷◌, ◌++◌, flat_map, Option, Some, None, codes, decimal}
 use Rattle.line_text.specs.Line.{on_one_line}
 use Rattle.tera_base.specs.declared.utils.Span.{Span}
-use Rattle.tera_check.specs.Findings.{NoteVal, NoteOf, FindingVal, FoundAs, label_of, place_of}
-use Rattle.tera_check.specs.declared.finding.Place.{Place}
-use Rattle.tera_check.specs.declared.finding.Severity.{Severity}
-use Rattle.tera_check.specs.declared.finding.Severity.TheVariants as severities
+use Rattle.tera_findings.specs.Findings.{NoteVal, NoteOf, FindingVal, FoundAs, label_of, place_of}
+use Rattle.tera_findings.specs.declared.finding.Place.{Place}
+use Rattle.tera_findings.specs.declared.finding.Severity.{Severity}
+use Rattle.tera_findings.specs.declared.finding.Severity.TheVariants as severities
 use Rattle.tera_report.specs.declared.role.Role.{Role}
 use Rattle.tera_report.specs.declared.role.Role.TheVariants.{Finding, Help, Note}
 use Rattle.terminal_text.specs.Excerpt.{excerpt}

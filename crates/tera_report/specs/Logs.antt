@@ -5,8 +5,8 @@ use Rattle.file_uris.specs.Encoding.{reference}
 use Rattle.json.specs.Token.{Token, begin_object, end_object, begin_array, end_array, key}
 use Rattle.json_members.specs.Members.{text_member, number_member}
 use Rattle.tera_base.specs.declared.utils.Span.{Span}
-use Rattle.tera_check.specs.Findings.{NoteVal, NoteOf, FindingVal, FoundAs, kind_name, all_kinds, severity_name}
-use Rattle.tera_check.specs.declared.finding.Kind.{Kind}
+use Rattle.tera_findings.specs.Findings.{NoteVal, NoteOf, FindingVal, FoundAs, kind_name, all_kinds, severity_name}
+use Rattle.tera_findings.specs.declared.finding.Kind.{Kind}
 use Rattle.tera_report.specs.Annotations.{column_of}
 
 -- the beginning of a member that is an object, and of one that is an array

@@ -5,14 +5,14 @@ use Rattle.json.specs.Print.{print}
 use Rattle.json.specs.Token.{Token, begin_object, end_object, key, boolean, null}
 use Rattle.json.specs.Tree.{json_tokens}
 use Rattle.tera_base.specs.declared.errors.Error.{Error}
-use Rattle.tera_check.specs.FaultFindings.{AreFaultsOf}
-use Rattle.tera_check.specs.Findings.{FindingVal, finding_view}
-use Rattle.tera_check.specs.Named.{tree_of}
-use Rattle.tera_check.specs.Objects.{object_of}
+use Rattle.tera_templates.specs.FaultFindings.{AreFaultsOf}
+use Rattle.tera_findings.specs.Findings.{FindingVal, finding_view}
+use Rattle.tera_templates.specs.Templates.{tree_of}
+use Rattle.tera_findings.specs.Objects.{object_of}
 use Rattle.tera_check.specs.OrderAndStatus.{IsInOrder}
-use Rattle.tera_check.specs.declared.finding.Finding.{Finding}
-use Rattle.tera_check.specs.declared.mended.Mended.{Mended}
-use Rattle.tera_check.specs.declared.templates.Template.{Template}
+use Rattle.tera_findings.specs.declared.finding.Finding.{Finding}
+use Rattle.tera_templates.specs.declared.mended.Mended.{Mended}
+use Rattle.tera_templates.specs.declared.templates.Template.{Template}
 use Rattle.tera_tree.specs.Outputs.{output_view}
 use Rattle.tera_tree.specs.Tree.{Output}
 use Rattle.tera_tree.specs.declared.outputs.ParserOutput.{ParserOutput}

@@ -3,8 +3,8 @@ use Rattle.std.specs.Prelude.{List, ℕ, [], ◌∷◌, ◌++◌, codes}
 use Rattle.json.specs.Token.{Token, begin_object, end_object}
 use Rattle.json_members.specs.Members.{text_member}
 use Rattle.line_text.specs.Line.{on_one_line}
-use Rattle.tera_check.specs.Findings.{first_span, severity_name}
-use Rattle.tera_check.specs.declared.finding.Severity.TheVariants.{Error}
+use Rattle.tera_findings.specs.Findings.{first_span, severity_name}
+use Rattle.tera_findings.specs.declared.finding.Severity.TheVariants.{Error}
 use Rattle.tera_report.specs.Annotations.{command_of, escaped, property}
 use Rattle.tera_report.specs.Logs.{locations, message}
 

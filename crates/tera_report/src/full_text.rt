@@ -1,7 +1,7 @@
 //! A finding as text for people.
 
 ghost use Rattle.std.specs.Prelude.{◌≡◌, ◌++◌, ℕ, List, map, flat_map, string_bytes, IfOk, OnOk};
-ghost use Rattle.tera_check.specs.Findings.{finding_view, note_view};
+ghost use Rattle.tera_findings.specs.Findings.{finding_view, note_view};
 ghost use Rattle.tera_report.specs.FullTexts.{place_text as text_of_place, help_line, marked_of, message_line, message as message_text, note_text, full_text, lines_of};
 ghost use Rattle.terminal_text.specs.Files.{source_of};
 

@@ -2,7 +2,7 @@
 
 ghost use Rattle.std.specs.Prelude.{◌≡◌, ◌++◌, string_bytes, IfOk, OnOk};
 ghost use Rattle.line_text.specs.Line.{on_one_line};
-ghost use Rattle.tera_check.specs.Findings.{finding_view};
+ghost use Rattle.tera_findings.specs.Findings.{finding_view};
 ghost use Rattle.tera_report.specs.Annotations.{annotation, command_of, escaped_character, escaped, property_character, property, span_text, column_of};
 
 use line_text::push_on_one_line;

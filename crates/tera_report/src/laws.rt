@@ -2,9 +2,9 @@
 
 ghost use Rattle.std.specs.Prelude.{◌≡◌, ◌<◌, ◌^◌, ℕ, List, None};
 ghost use Rattle.tera_base.specs.declared.utils.Span.{Span};
-ghost use Rattle.tera_check.specs.Findings.{FindingVal, NoteVal, FoundAs};
-ghost use Rattle.tera_check.specs.declared.finding.Kind.{Kind};
-ghost use Rattle.tera_check.specs.declared.finding.Severity.{Severity};
+ghost use Rattle.tera_findings.specs.Findings.{FindingVal, NoteVal, FoundAs};
+ghost use Rattle.tera_findings.specs.declared.finding.Kind.{Kind};
+ghost use Rattle.tera_findings.specs.declared.finding.Severity.{Severity};
 ghost use Rattle.tera_report.specs.Annotations.{annotation as annotation_text, IsOneLine};
 ghost use Rattle.tera_report.specs.FullTexts.{full_text, lines_of};
 ghost use Rattle.terminal_text.specs.declared.style.Style.TheVariants.{Plain};

@@ -3,7 +3,7 @@
 ghost use Rattle.std.specs.Prelude.{map};
 ghost use Rattle.std.specs.List.{flat_map};
 ghost use Rattle.json_members.specs.Written.{Puts};
-ghost use Rattle.tera_check.specs.Findings.{finding_view, note_view};
+ghost use Rattle.tera_findings.specs.Findings.{finding_view, note_view};
 ghost use Rattle.tera_report.specs.Logs.{array_begin, corner, place, message, locations, note_object, notes_member, result_object, rule, log_begin, log_end};
 
 use crate::github::column;

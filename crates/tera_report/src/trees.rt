@@ -2,8 +2,8 @@
 
 ghost use Rattle.std.specs.Prelude.{◌≡◌, map, option_map, string_bytes, IfOk};
 ghost use Rattle.json_members.specs.Written.{Puts};
-ghost use Rattle.tera_check.specs.Findings.{finding_view};
-ghost use Rattle.tera_check.specs.Named.{tree_of};
+ghost use Rattle.tera_findings.specs.Findings.{finding_view};
+ghost use Rattle.tera_templates.specs.Templates.{tree_of};
 ghost use Rattle.tera_tree.specs.Outputs.{output_view};
 ghost use Rattle.tera_report.specs.Trees.{IsTreeLine, faults_member, has_more, tree_object, tree_tokens};
 

@@ -9,9 +9,9 @@ use Rattle.std.specs.Option.{option_eq}
 use Rattle.std.specs.Cmp.Lexicographic.{pointwise}
 use Rattle.std.specs.Str.{bytes_eq}
 use denote.Enum.Bare.{same_true}
-use Rattle.tera_check.specs.contracts.finding.Severity.{the_type as the_severities}
-use Rattle.tera_check.specs.contracts.finding.SeverityPartialEq.TheImpl as severity_test
-use Rattle.tera_check.specs.declared.finding.Severity.{Severity}
+use Rattle.tera_findings.specs.contracts.finding.Severity.{the_type as the_severities}
+use Rattle.tera_findings.specs.contracts.finding.SeverityPartialEq.TheImpl as severity_test
+use Rattle.tera_findings.specs.declared.finding.Severity.{Severity}
 use Rattle.tera_server.specs.Configuring.{AreFoundSet, ArePublishedAgain, IsConfiguredBy, IsUnconfigured, settings_by}
 use Rattle.tera_server.specs.Sending.{unpublished_of}
 use Rattle.tera_server.specs.Settings.{rule_view, settings_in}

@@ -3,10 +3,10 @@ use Rattle.std.proofs.Common.{◌≡◌, ◌∷◌, [], List, Bool, true, false,
 use Rattle.std.specs.List.{find}
 use Rattle.std.specs.Option.{option_map_or}
 use Rattle.std.specs.Str.{bytes_eq}
-use Rattle.tera_check.specs.Findings.{default_level, kind_name, severity_of}
+use Rattle.tera_findings.specs.Findings.{default_level, kind_name, severity_of}
 use Rattle.tera_check.specs.Levels.{is_fault, is_of, level_of}
 use Rattle.tera_check.specs.Levels as check
-use Rattle.tera_check.specs.declared.finding.Kind.{Kind}
+use Rattle.tera_findings.specs.declared.finding.Kind.{Kind}
 use Rattle.tera_check.specs.declared.levels.Levels.{Levels}
 use Rattle.tera_check.specs.declared.levels.RuleLevel.{RuleLevel}
 use Rattle.tera_server.specs.Settings.{ByRules, RuleVal, level_by, level_in, level_view}

@@ -2,7 +2,7 @@
 use Rattle.std.proofs.Common.{◌≡◌, Option, None, Some, String, Vec, refl}
 use Rattle.std.specs.Option.{is_some}
 use Rattle.std.specs.declared.alloc.Global.{Global}
-use Rattle.tera_check.specs.Registered.{AreListed, RegisteredVal}
+use Rattle.tera_rules.specs.Registered.{AreListed, RegisteredVal}
 use Rattle.tera_server.specs.Settings.{SettingsVal, list_in, registered_in}
 
 pub same_registered : (settings : SettingsVal) (r : RegisteredVal) → AreListed settings.filters settings.tests settings.functions r → r ≡ registered_in settings

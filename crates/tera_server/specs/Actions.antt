@@ -9,7 +9,7 @@ use Rattle.json.specs.Tree.{json_tokens}
 use Rattle.json.specs.Value.{items_of}
 use Rattle.protocol_values.specs.Members.{array_in, member_of}
 use Rattle.protocol_values.specs.Writing.{edit_json}
-use Rattle.tera_check.specs.declared.finding.Finding.{Finding}
+use Rattle.tera_findings.specs.declared.finding.Finding.{Finding}
 use Rattle.tera_fixes.specs.All.{AreSuggestedIn}
 use Rattle.tera_fixes.specs.Suggestions.{SuggestionVal}
 use Rattle.tera_fixes.specs.declared.parts.Part.{Part}

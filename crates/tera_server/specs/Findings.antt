@@ -7,7 +7,7 @@ use Rattle.json.specs.Tree.{json_tokens}
 use Rattle.json.specs.Value.{items_of}
 use Rattle.json_rpc.specs.Writing.{notification}
 use Rattle.protocol_values.specs.Writing.{number_json, range_json, location_json, member_tokens}
-use Rattle.tera_check.specs.Findings.{kind_name}
+use Rattle.tera_findings.specs.Findings.{kind_name}
 use Rattle.tera_workspace.specs.Diagnostics.{DiagnosticVal, RelatedVal}
 use Rattle.text_edits.specs.declared.positions.Position.{Position}
 use Rattle.tera_server.specs.Editors.{seen_of, uri_in, version_in}

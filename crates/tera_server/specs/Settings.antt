@@ -5,11 +5,11 @@ use Rattle.std.specs.List.{filter_map, find, list_any}
 use Rattle.std.specs.Option.{option_and_then, option_map, option_map_or}
 use Rattle.std.specs.Str.{bytes_eq}
 use Rattle.std.specs.declared.alloc.Global.{Global}
-use Rattle.tera_check.specs.Findings.{default_level, kind_name, severity_of}
+use Rattle.tera_findings.specs.Findings.{default_level, kind_name, severity_of}
 use Rattle.tera_check.specs.Levels.{is_fault}
-use Rattle.tera_check.specs.Registered.{is_listed, RegisteredVal as ByLists}
-use Rattle.tera_check.specs.declared.finding.Kind.{Kind}
-use Rattle.tera_check.specs.declared.finding.Severity.{Severity}
+use Rattle.tera_rules.specs.Registered.{is_listed, RegisteredVal as ByLists}
+use Rattle.tera_findings.specs.declared.finding.Kind.{Kind}
+use Rattle.tera_findings.specs.declared.finding.Severity.{Severity}
 use Rattle.tera_check.specs.declared.levels.RuleLevel.{RuleLevel}
 use Rattle.tera_workspace.specs.Diagnostics.{DiagnosticVal}
 use Rattle.tera_server.specs.Templates.{is_inside}

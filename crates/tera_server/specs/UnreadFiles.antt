@@ -3,8 +3,8 @@ use Rattle.std.specs.Prelude.{◌≡◌, ◌&&◌, ℕ, nat_eq, Bool, List, stri
 use Rattle.std.specs.BTreeMap.{get_by_text}
 use Rattle.std.specs.Option.{option_eq, option_map}
 use Rattle.std.specs.Str.{bytes_eq}
-use Rattle.tera_check.specs.declared.finding.Severity.{Severity}
-use Rattle.tera_check.specs.declared.finding.Severity.TheVariants.{Error, Warning}
+use Rattle.tera_findings.specs.declared.finding.Severity.{Severity}
+use Rattle.tera_findings.specs.declared.finding.Severity.TheVariants.{Error, Warning}
 use Rattle.tera_server.specs.declared.unread.Reason.{Reason}
 use Rattle.tera_server.specs.declared.unread.UnreadFiles.{UnreadFiles}
 

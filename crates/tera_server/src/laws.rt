@@ -12,7 +12,7 @@ ghost use Rattle.tera_outline.specs.declared.semantic_tokens.SemanticKind.{Seman
 ghost use Rattle.tera_outline.specs.declared.semantic_tokens.SemanticToken.{SemanticToken};
 ghost use Rattle.tera_outline.specs.Symbols.{Outlined, outline_of};
 ghost use Rattle.tera_check.specs.Levels.{level_of};
-ghost use Rattle.tera_check.specs.declared.finding.Kind.{Kind};
+ghost use Rattle.tera_findings.specs.declared.finding.Kind.{Kind};
 ghost use Rattle.tera_check.specs.declared.levels.Levels.{Levels};
 ghost use Rattle.text_edits.specs.declared.positions.Encoding.{Encoding};
 ghost use Rattle.tera_workspace.specs.Components.{files_of};

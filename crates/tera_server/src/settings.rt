@@ -2,7 +2,7 @@
 
 ghost use Rattle.std.specs.Prelude.{◌≡◌, ℕ, List, None, Some, true, map, string_bytes, IfOk, IfSome, OnOk, OnErr};
 ghost use Rattle.std.specs.Option.{is_some, option_map};
-ghost use Rattle.tera_check.specs.Registered.{AreListed, list_view, registered_view as all_registered};
+ghost use Rattle.tera_rules.specs.Registered.{AreListed, list_view, registered_view as all_registered};
 ghost use Rattle.tera_server.specs.Settings as specs;
 ghost use Rattle.tera_server.specs.Settings.{ByRules, IsFileAt, IsSetAt, file_in, registered_view, reported_view, rule_view, settings_in, settings_view};
 

@@ -5,11 +5,11 @@ use Rattle.std.specs.declared.alloc.Global.{Global}
 use Rattle.std.specs.List.Sorted.{IsPermutation}
 use Rattle.std.proofs.lemmas.List.{length-set, map-append}
 use Rattle.std.proofs.lemmas.List.Sorted.{IsPermutation-append_right, IsPermutation-map, IsPermutation-trans}
-use Rattle.tera_check.specs.Findings.{FindingVal, finding_view}
+use Rattle.tera_findings.specs.Findings.{FindingVal, finding_view}
 use Rattle.tera_check.specs.OrderAndStatus.{IsInOrder}
-use Rattle.tera_check.specs.declared.finding.Finding.{Finding}
+use Rattle.tera_findings.specs.declared.finding.Finding.{Finding}
 use Rattle.tera_check.specs.declared.found.Found.{Found}
-use Rattle.tera_check.specs.declared.templates.Template.{Template}
+use Rattle.tera_templates.specs.declared.templates.Template.{Template}
 use Rattle.tera_site.specs.Found.{AddsAt, AddsIf, AreAdded, IsWith, is_named}
 use Rattle.tera_site.specs.Named.{due_names}
 use Rattle.tera_site.specs.Sites.{AroundVal}

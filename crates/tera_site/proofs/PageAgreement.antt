@@ -16,10 +16,10 @@ use Rattle.tera_tree.specs.Parts.{PartVal, NodePart, ExpressionPart, parts_of_no
 use Rattle.tera_tree.specs.Tree.{Output}
 use Rattle.tera_tree.specs.declared.outputs.ParserOutput.{ParserOutput}
 use Rattle.tera_check.specs.Due.{is_due}
-use Rattle.tera_check.specs.Findings.{FindingVal, span_if_any}
-use Rattle.tera_check.specs.Named.{tree_of}
-use Rattle.tera_check.specs.Within.{within, all_in, all_in_maybe, all_in_filters, all_in_args, all_in_items, all_in_entries, within_node, all_in_nodes, within_part, all_parts, parts_of}
-use Rattle.tera_check.specs.declared.templates.Template.{Template}
+use Rattle.tera_findings.specs.Findings.{FindingVal, span_if_any}
+use Rattle.tera_templates.specs.Templates.{tree_of}
+use Rattle.tera_rules.specs.Within.{within, all_in, all_in_maybe, all_in_filters, all_in_args, all_in_items, all_in_entries, within_node, all_in_nodes, within_part, all_parts, parts_of}
+use Rattle.tera_templates.specs.declared.templates.Template.{Template}
 use Rattle.tera_check.proofs.TakenLemmas.{all_append}
 use Rattle.tera_site.specs.Alike.{AgreeAround, included_at, block_around, top_block, blocks_used}
 use Rattle.tera_site.specs.Kept.{is_one_of, on_page}

@@ -3,8 +3,8 @@ use Rattle.std.proofs.Common.{◌≡◌, ◌∙◌, ℕ, List, [], ◌∷◌, �
 use Rattle.std.specs.List.{flat_map}
 use Rattle.tera_tree.specs.Parts.{PartVal, children, parts_view}
 use Rattle.tera_tree.specs.declared.parts.Part.{Part}
-use Rattle.tera_check.specs.Within.{all_parts}
-use Rattle.tera_check.proofs.RulesLemmas.{last_part}
+use Rattle.tera_rules.specs.Within.{all_parts}
+use Rattle.tera_rules.proofs.RulesLemmas.{last_part}
 
 -- the names of a part, and then of what is to come, where those in it are in its place
 pub taken : (f : PartVal → List (List ℕ)) (old now : List PartVal) (p : PartVal) (start found : List (List ℕ)) → now ≡ old ++ children p → found ≡ start ++ f p

@@ -6,7 +6,7 @@ use Rattle.tera_ast.specs.Tree.{Expr, Const, Array, Map, Var, GetAttr, GetItem, 
 use Rattle.tera_ast.specs.Tree.{MaybeExpr, NoExpr, OneExpr, Filters, NoFilters, OneFilter, Args, NoArgs, Arg, Items, NoItems, Item, SpreadItem, Entries, NoEntries, Entry, SpreadEntry}
 use Rattle.tera_ast.specs.Tree.{Stmt, Content, Shown, Set, BlockSet, Include, Block, ForLoop, Break, Continue, If, FilterSection, Nodes, NoNodes, OneNode}
 use Rattle.tera_tree.specs.Parts.{PartVal, NodePart, ExpressionPart, parts_view, parts_of_maybe, parts_of_filters, parts_of_args, parts_of_items, parts_of_entries, parts_of_nodes, parts_in_expression, parts_in_node, children}
-use Rattle.tera_check.specs.Findings.{FindingVal}
+use Rattle.tera_findings.specs.Findings.{FindingVal}
 use Rattle.tera_site.specs.Inside.{inside_parts, to_come}
 use Rattle.tera_site.specs.Placed.{PlacedVal, placed, placed_maybe, placed_filters, placed_args, placed_items, placed_entries, placed_node, placed_nodes, placed_in, all_placed, around_in_node, around_in}
 use Rattle.tera_site.specs.Named.{site_part}

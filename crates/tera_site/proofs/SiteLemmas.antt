@@ -8,7 +8,7 @@ use Rattle.tera_ast.specs.Tree.{Expr, Const, Array, Map, Var, GetAttr, GetItem, 
 use Rattle.tera_ast.specs.Tree.{Stmt, Content, Shown, Set, BlockSet, Include, Block, ForLoop, Break, Continue, If, FilterSection}
 use Rattle.tera_tree.specs.Parts.{PartVal, NodePart, ExpressionPart}
 use Rattle.tera_tree.specs.Tree.{Output}
-use Rattle.tera_check.specs.Findings.{FindingVal}
+use Rattle.tera_findings.specs.Findings.{FindingVal}
 use Rattle.tera_site.specs.Placed.{PlacedVal, placed_parts_of}
 use Rattle.tera_site.specs.Alike.{AgreeAround, included_at, block_around, top_block, blocks_used}
 use Rattle.tera_site.specs.Named.{missing, circular_extends, circular_include, undefined_block, super_above, lacks, parent_findings, include_findings, inherited_block, block_findings, blocks_findings, super_findings, super_call, site_part, names_findings}

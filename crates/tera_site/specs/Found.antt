@@ -4,10 +4,10 @@ use Rattle.std.specs.BTreeSet.{contains_text}
 use Rattle.std.specs.List.Sorted.{IsPermutation}
 use Rattle.std.specs.Option.{is_some}
 use Rattle.tera_ast.specs.View.{name_view}
-use Rattle.tera_check.specs.Findings.{finding_view}
+use Rattle.tera_findings.specs.Findings.{finding_view}
 use Rattle.tera_check.specs.OrderAndStatus.{IsInOrder}
 use Rattle.tera_check.specs.declared.found.Found.{Found}
-use Rattle.tera_check.specs.declared.templates.Template.{Template}
+use Rattle.tera_templates.specs.declared.templates.Template.{Template}
 use Rattle.tera_site.specs.Named.{due_names}
 use Rattle.tera_site.specs.Sites.{AroundVal, IsSite}
 use Rattle.tera_site.specs.declared.found.SiteNames.{SiteNames}

@@ -9,10 +9,10 @@ use Rattle.tera_tree.specs.Parts.{PartVal, NodePart, ExpressionPart}
 use Rattle.tera_tree.specs.Outputs.{output_view}
 use Rattle.tera_tree.specs.Tree.{Output}
 use Rattle.tera_check.specs.Due.{is_due}
-use Rattle.tera_check.specs.Findings.{FindingVal, FindingOf, span_if_any}
-use Rattle.tera_check.specs.Named.{tree_of}
-use Rattle.tera_check.specs.declared.finding.Kind.TheVariants as kinds
-use Rattle.tera_check.specs.declared.templates.Template.{Template}
+use Rattle.tera_findings.specs.Findings.{FindingVal, FindingOf, span_if_any}
+use Rattle.tera_templates.specs.Templates.{tree_of}
+use Rattle.tera_findings.specs.declared.finding.Kind.TheVariants as kinds
+use Rattle.tera_templates.specs.declared.templates.Template.{Template}
 use Rattle.tera_site.specs.Placed.{placed_parts_of}
 use Rattle.tera_site.specs.Sites.{AroundVal}
 

@@ -8,11 +8,11 @@ use Rattle.tera_tree.specs.Parts.{PartVal, NodePart}
 use Rattle.tera_tree.specs.Outputs.{output_view}
 use Rattle.tera_tree.specs.Tree.{Output}
 use Rattle.tera_tree.specs.declared.outputs.ParserOutput.{ParserOutput}
-use Rattle.tera_check.specs.Lost.{is_lost}
-use Rattle.tera_check.specs.Named.{tree_of}
-use Rattle.tera_check.specs.Within.{parts_of}
-use Rattle.tera_check.specs.declared.mended.Mended.{Mended}
-use Rattle.tera_check.specs.declared.templates.Template.{Template}
+use Rattle.tera_templates.specs.Lost.{is_lost}
+use Rattle.tera_templates.specs.Templates.{tree_of}
+use Rattle.tera_rules.specs.Within.{parts_of}
+use Rattle.tera_templates.specs.declared.mended.Mended.{Mended}
+use Rattle.tera_templates.specs.declared.templates.Template.{Template}
 
 -- what it extends, the names that it includes, and its blocks; and whether that is all: no text that was written for a
 -- fault may have had more

@@ -4,7 +4,7 @@ use Rattle.std.specs.List.{Contains, flat_map, list_any}
 use Rattle.std.specs.Option.{is_some}
 use Rattle.std.specs.Str.{bytes_eq}
 use Rattle.link_groups.specs.Groups.{IsOnCircle, Reaches}
-use Rattle.tera_check.specs.declared.templates.Template.{Template}
+use Rattle.tera_templates.specs.declared.templates.Template.{Template}
 use Rattle.tera_site.specs.Pages.{PageVal, page_of}
 
 -- the templates: the number of each by its name, and what each says

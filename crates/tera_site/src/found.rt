@@ -3,7 +3,7 @@
 ghost use Rattle.std.specs.Prelude.{◌≡◌, ◌++◌, IfOk, OnOk, map};
 ghost use Rattle.std.specs.List.{flat_map};
 ghost use Rattle.std.specs.List.Sorted.{IsPermutation};
-ghost use Rattle.tera_check.specs.Findings.{finding_view};
+ghost use Rattle.tera_findings.specs.Findings.{finding_view};
 ghost use Rattle.tera_check.specs.OrderAndStatus.{IsInOrder};
 ghost use Rattle.tera_site.specs.Named.{due_names};
 ghost use Rattle.tera_site.specs.Found.{AddsAt, AddsIf, AddsNames, IsWith, is_named};

@@ -3,7 +3,7 @@
 ghost use Rattle.std.specs.Prelude.{◌≡◌};
 ghost use Rattle.std.specs.Bool.{Decides};
 ghost use Rattle.tera_base.specs.declared.utils.Span.{Span};
-ghost use Rattle.tera_check.specs.declared.templates.Template.{Template};
+ghost use Rattle.tera_templates.specs.declared.templates.Template.{Template};
 ghost use Rattle.tera_tree.specs.Tree.{Output};
 ghost use Rattle.tera_site.specs.Alike.{AgreeAround};
 ghost use Rattle.tera_site.specs.Kept.{kept_page, kept_view, on_page};

@@ -11,7 +11,7 @@ ghost use Rattle.tera_ast.specs.View.{node_view, nodes_view};
 ghost use Rattle.tera_tree.specs.Outputs.{output_view};
 ghost use Rattle.tera_tree.specs.Parts.{NodePart, children, part_view};
 ghost use Rattle.tera_check.specs.Due.{is_due};
-ghost use Rattle.tera_check.specs.Findings.{FindingOf, finding_view, span_if_any};
+ghost use Rattle.tera_findings.specs.Findings.{FindingOf, finding_view, span_if_any};
 ghost use Rattle.tera_check.specs.OrderAndStatus.{IsInOrder};
 ghost use Rattle.tera_site.specs.Inside.{inside_parts, to_come};
 ghost use Rattle.tera_site.specs.Views.{around_view};

@@ -5,7 +5,7 @@ ghost use Rattle.std.specs.List.{flat_map};
 ghost use Rattle.std.specs.Option.{option_map};
 ghost use Rattle.tera_tree.specs.Outputs.{output_view};
 ghost use Rattle.tera_tree.specs.Parts.{part_view, parts_view};
-ghost use Rattle.tera_check.specs.Within.{all_parts, parts_of};
+ghost use Rattle.tera_rules.specs.Within.{all_parts, parts_of};
 ghost use Rattle.tera_site.specs.Pages.{block_name, included, is_whole_by, page_by, page_of};
 ghost use Rattle.tera_site.specs.Sites.{if_any, used_names};
 ghost use Rattle.tera_site.specs.Views.{names_of, page_view};

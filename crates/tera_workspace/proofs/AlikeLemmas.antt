@@ -6,12 +6,12 @@ use Rattle.std.specs.Cmp.Lexicographic.{pointwise}
 use Rattle.std.specs.Str.{bytes_eq}
 use denote.Enum.Bare.{same_true, true_same}
 use Rattle.tera_base.proofs.Equals.{views_decide}
-use Rattle.tera_check.specs.contracts.finding.Kind.{the_type}
-use Rattle.tera_check.specs.contracts.finding.Severity.{the_type as the_severities}
-use Rattle.tera_check.specs.contracts.finding.KindPartialEq.TheImpl as kind_test
-use Rattle.tera_check.specs.contracts.finding.SeverityPartialEq.TheImpl as severity_test
-use Rattle.tera_check.specs.declared.finding.Kind.{Kind}
-use Rattle.tera_check.specs.declared.finding.Severity.{Severity}
+use Rattle.tera_findings.specs.contracts.finding.Kind.{the_type}
+use Rattle.tera_findings.specs.contracts.finding.Severity.{the_type as the_severities}
+use Rattle.tera_findings.specs.contracts.finding.KindPartialEq.TheImpl as kind_test
+use Rattle.tera_findings.specs.contracts.finding.SeverityPartialEq.TheImpl as severity_test
+use Rattle.tera_findings.specs.declared.finding.Kind.{Kind}
+use Rattle.tera_findings.specs.declared.finding.Severity.{Severity}
 use Rattle.text_edits.specs.contracts.positions.PositionPartialEq.TheImpl as position_test
 use Rattle.text_edits.specs.declared.positions.Position.{Position}
 use Rattle.tera_workspace.specs.Diagnostics.{DiagnosticVal, RelatedVal, diagnostic_view, related_view}

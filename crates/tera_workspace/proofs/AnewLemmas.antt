@@ -10,12 +10,11 @@ use Rattle.tera_parser.specs.Refusal.{LosesSource, Refuses}
 use Rattle.tera_statements.specs.Known.{grouped_of}
 use Rattle.tera_tree.specs.Outputs.{output_view}
 use Rattle.tera_tree.specs.Tree.{Output}
-use Rattle.tera_check.specs.Bodies.{HasHidden}
-use Rattle.tera_check.specs.Faults.{IsSyntaxError}
-use Rattle.tera_check.specs.Ignores.{AreIgnoresIn}
-use Rattle.tera_check.specs.Mended.{IsMended, text_of}
-use Rattle.tera_check.specs.Named.{tree_of}
-use Rattle.tera_check.specs.declared.templates.Template.{Template}
+use Rattle.tera_templates.specs.Templates.{HasHidden, tree_of}
+use Rattle.tera_findings.specs.Faults.{IsSyntaxError}
+use Rattle.tera_templates.specs.Ignores.{AreIgnoresIn}
+use Rattle.tera_templates.specs.Mended.{IsMended, text_of}
+use Rattle.tera_templates.specs.declared.templates.Template.{Template}
 use Rattle.tera_workspace.specs.Fresh.{IsRead, most_faults}
 use Rattle.tera_workspace.specs.Kept.{reported_of, HasNames, IsAnew}
 use Rattle.tera_workspace.specs.Sources.{Source}

@@ -11,20 +11,20 @@ use Rattle.tera_ast.specs.Tree.{Expr, Const, Array, Map, Var, GetAttr, GetItem, 
 use Rattle.tera_ast.specs.View.{nodes_of}
 use Rattle.tera_tree.specs.Tree.{Argument, Definition, Output}
 use Rattle.tera_check.specs.Alike.{name_called, names_in}
-use Rattle.tera_check.specs.Calls.{calls_in_definition, calls_in_nodes, calls_of}
+use Rattle.tera_rules.specs.Calls.{calls_in_definition, calls_in_nodes, calls_of}
 use Rattle.tera_check.specs.Due.{due_among, is_due, is_due_in}
-use Rattle.tera_check.specs.Findings.{NoteVal, FindingVal, FoundAs, kind_name}
-use Rattle.tera_check.specs.Ignores.{IgnoreVal, ignores_view}
-use Rattle.tera_check.specs.Judged.{KnownVal, RemarkVal, taken_by, about, remarked, refused_for, unless_rest, unknown, refusal, counted, refused, refused_one, is_again, refused_findings, missed, missing_findings, missing_in, judged, unused_body, unused_bodies, call_findings, again, defined_again, again_findings}
+use Rattle.tera_findings.specs.Findings.{NoteVal, FindingVal, FoundAs, kind_name}
+use Rattle.tera_templates.specs.Ignores.{IgnoreVal, ignores_view}
+use Rattle.tera_rules.specs.Judged.{KnownVal, RemarkVal, taken_by, about, remarked, refused_for, unless_rest, unknown, refusal, counted, refused, refused_one, is_again, refused_findings, missed, missing_findings, missing_in, judged, unused_body, unused_bodies, call_findings, again, defined_again, again_findings}
 use Rattle.tera_check.specs.Named.{span_at, taken_in, tree_findings}
 use Rattle.tera_check.specs.Parameters.{parameter_at, unused_in}
-use Rattle.tera_check.specs.Rules.{small_findings}
+use Rattle.tera_rules.specs.Rules.{small_findings}
 use Rattle.tera_check.specs.Silenced.{is_judged, is_silenced_at, is_undefined_kind, silences, silences_at, unused_ignore, unused_ignores}
-use Rattle.tera_check.specs.Passed.{NamedVal, PassedVal, OneNamed, Whatever, has_whatever, is_passed, passed_by}
-use Rattle.tera_check.specs.declared.finding.Kind.{Kind}
-use Rattle.tera_check.specs.declared.finding.Severity.{Severity}
-use Rattle.tera_check.specs.declared.mended.Mended.{Mended}
-use Rattle.tera_check.specs.declared.templates.Template.{Template}
+use Rattle.tera_rules.specs.Passed.{NamedVal, PassedVal, OneNamed, Whatever, has_whatever, is_passed, passed_by}
+use Rattle.tera_findings.specs.declared.finding.Kind.{Kind}
+use Rattle.tera_findings.specs.declared.finding.Severity.{Severity}
+use Rattle.tera_templates.specs.declared.mended.Mended.{Mended}
+use Rattle.tera_templates.specs.declared.templates.Template.{Template}
 use Rattle.tera_check.proofs.TakenLemmas.{all_append, agree_both, unused_alike, taken_by_arguments}
 use Rattle.tera_workspace.specs.Beside.{IsBeside, AreAlikeBut, AreAlikeButIfAny, AgreeBut}
 

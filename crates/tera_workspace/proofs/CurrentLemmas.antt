@@ -9,12 +9,13 @@ use Rattle.tera_tree.specs.Outputs.{output_view}
 use Rattle.tera_tree.specs.declared.outputs.ParserOutput.{ParserOutput}
 use Rattle.tera_check.specs.Alike.{names_in}
 use Rattle.tera_check.specs.Due.{due_findings}
-use Rattle.tera_check.specs.Findings.{finding_view}
-use Rattle.tera_check.specs.Judged.{KnownVal}
-use Rattle.tera_check.specs.Lost.{are_open}
-use Rattle.tera_check.specs.Named.{first_named, defined_in, defined_by, tree_of}
-use Rattle.tera_check.specs.declared.finding.Finding.{Finding}
-use Rattle.tera_check.specs.declared.templates.Template.{Template}
+use Rattle.tera_findings.specs.Findings.{finding_view}
+use Rattle.tera_rules.specs.Judged.{KnownVal}
+use Rattle.tera_templates.specs.Lost.{are_open}
+use Rattle.tera_check.specs.Named.{first_named, defined_in, defined_by}
+use Rattle.tera_templates.specs.Templates.{tree_of}
+use Rattle.tera_findings.specs.declared.finding.Finding.{Finding}
+use Rattle.tera_templates.specs.declared.templates.Template.{Template}
 use Rattle.tera_check.proofs.TakenLemmas.{all_append}
 use Rattle.text_edits.specs.declared.positions.Encoding.{Encoding}
 use Rattle.tera_workspace.specs.Beside.{AreAlikeButIfAny, AgreeBut, IsBeside}

@@ -7,9 +7,10 @@ use Rattle.std.proofs.lemmas.List.{map-append}
 use Rattle.std.proofs.lemmas.Slice.Eq.{bytes_eq-Decides}
 use Rattle.tera_base.specs.declared.utils.Span.{Span}
 use Rattle.tera_tree.specs.Tree.{Argument, Definition}
-use Rattle.tera_check.specs.Judged.{KnownVal}
-use Rattle.tera_check.specs.Named.{known_at, span_at, defined_from, defined_in, defined_by, definitions_of, first_named}
-use Rattle.tera_check.specs.declared.templates.Template.{Template}
+use Rattle.tera_rules.specs.Judged.{KnownVal}
+use Rattle.tera_check.specs.Named.{known_at, span_at, defined_from, defined_in, defined_by, first_named}
+use Rattle.tera_templates.specs.Templates.{definitions_of}
+use Rattle.tera_templates.specs.declared.templates.Template.{Template}
 use Rattle.text_edits.specs.declared.positions.Encoding.{Encoding}
 use Rattle.tera_workspace.specs.Components.{names_defined, components_by, parameters_of}
 use Rattle.tera_workspace.specs.Definitions.{DefinitionVal, definition_at, IsDefinedIn, IsParameterIn}

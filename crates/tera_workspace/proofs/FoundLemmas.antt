@@ -7,14 +7,15 @@ use Rattle.tera_tree.specs.Outputs.{output_view}
 use Rattle.tera_tree.specs.declared.outputs.ParserOutput.{ParserOutput}
 use Rattle.tera_check.specs.Alike.{names_in, AreAlikeIfAny, AgreeOn}
 use Rattle.tera_check.specs.Due.{due_among, due_findings}
-use Rattle.tera_check.specs.FaultFindings.{AreFaultsOf}
-use Rattle.tera_check.specs.Findings.{FindingVal, finding_view}
-use Rattle.tera_check.specs.Judged.{KnownVal}
-use Rattle.tera_check.specs.Lost.{are_open}
-use Rattle.tera_check.specs.Named.{tree_findings, tree_of, first_named, defined_by}
+use Rattle.tera_templates.specs.FaultFindings.{AreFaultsOf}
+use Rattle.tera_findings.specs.Findings.{FindingVal, finding_view}
+use Rattle.tera_rules.specs.Judged.{KnownVal}
+use Rattle.tera_templates.specs.Lost.{are_open}
+use Rattle.tera_check.specs.Named.{tree_findings, first_named, defined_by}
+use Rattle.tera_templates.specs.Templates.{tree_of}
 use Rattle.tera_check.specs.OrderAndStatus.{IsInOrder}
-use Rattle.tera_check.specs.declared.finding.Finding.{Finding}
-use Rattle.tera_check.specs.declared.templates.Template.{Template}
+use Rattle.tera_findings.specs.declared.finding.Finding.{Finding}
+use Rattle.tera_templates.specs.declared.templates.Template.{Template}
 use Rattle.tera_check.proofs.AlikeLemmas.{tree_alike}
 use Rattle.tera_workspace.specs.Fresh.{IsFound}
 use Rattle.tera_workspace.specs.Kept.{HasNames}

@@ -12,11 +12,12 @@ use Rattle.tera_tree.specs.Tree.{Definition}
 use Rattle.tera_tree.specs.declared.outputs.ParserOutput.{ParserOutput}
 use Rattle.tera_check.specs.Alike.{names_in, AreAlike, AreAlikeIfAny, AgreeOn}
 use Rattle.tera_check.specs.Due.{due_findings}
-use Rattle.tera_check.specs.Findings.{finding_view}
-use Rattle.tera_check.specs.Judged.{KnownVal}
-use Rattle.tera_check.specs.Lost.{are_open}
-use Rattle.tera_check.specs.Named.{known_at, first_named, defined_from, defined_in, defined_by, definitions_of, or_else, tree_of}
-use Rattle.tera_check.specs.declared.templates.Template.{Template}
+use Rattle.tera_findings.specs.Findings.{finding_view}
+use Rattle.tera_rules.specs.Judged.{KnownVal}
+use Rattle.tera_templates.specs.Lost.{are_open}
+use Rattle.tera_check.specs.Named.{known_at, first_named, defined_from, defined_in, defined_by, or_else}
+use Rattle.tera_templates.specs.Templates.{definitions_of, tree_of}
+use Rattle.tera_templates.specs.declared.templates.Template.{Template}
 use Rattle.text_edits.specs.declared.positions.Encoding.{Encoding}
 use Rattle.tera_workspace.specs.Fresh.{IsReported}
 use Rattle.tera_workspace.specs.Heads.{definition_named, HaveOneHeadIfAny}

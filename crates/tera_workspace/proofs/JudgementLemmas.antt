@@ -5,14 +5,14 @@ use Rattle.std.proofs.lemmas.Slice.Eq.{bytes_eq-Decides}
 use Rattle.std.specs.List.Sorted.{IsPermutation}
 use Rattle.std.specs.Option.{option_map}
 use Rattle.tera_check.specs.Due.{due_findings}
-use Rattle.tera_check.specs.FaultFindings.{AreFaultsOf}
-use Rattle.tera_check.specs.Findings.{FindingVal, finding_view}
-use Rattle.tera_check.specs.Judged.{KnownVal}
-use Rattle.tera_check.specs.Lost.{are_open}
+use Rattle.tera_templates.specs.FaultFindings.{AreFaultsOf}
+use Rattle.tera_findings.specs.Findings.{FindingVal, finding_view}
+use Rattle.tera_rules.specs.Judged.{KnownVal}
+use Rattle.tera_templates.specs.Lost.{are_open}
 use Rattle.tera_check.specs.Named.{first_named, defined_by}
 use Rattle.tera_check.specs.OrderAndStatus.{IsInOrder}
-use Rattle.tera_check.specs.declared.finding.Finding.{Finding}
-use Rattle.tera_check.specs.declared.templates.Template.{Template}
+use Rattle.tera_findings.specs.declared.finding.Finding.{Finding}
+use Rattle.tera_templates.specs.declared.templates.Template.{Template}
 use Rattle.tera_workspace.specs.Fresh.{IsFound}
 use Rattle.tera_workspace.specs.Kept.{name_of, sources_of, templates_of, NoneBefore, IsNumbered}
 use Rattle.tera_workspace.specs.Names.{is_among}

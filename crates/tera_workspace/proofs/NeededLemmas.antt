@@ -4,9 +4,10 @@ use Rattle.std.specs.Str.{bytes_eq}
 use Rattle.std.proofs.lemmas.List.{at_drop_more, at_drop_all}
 use Rattle.tera_tree.specs.View.{definition_view}
 use Rattle.tera_tree.specs.declared.ast.ComponentDefinition.{ComponentDefinition}
-use Rattle.tera_check.specs.Judged.{KnownVal}
-use Rattle.tera_check.specs.Named.{known_at, definitions_of, defined_from, defined_in, defined_by, first_named, or_else}
-use Rattle.tera_check.specs.declared.templates.Template.{Template}
+use Rattle.tera_rules.specs.Judged.{KnownVal}
+use Rattle.tera_check.specs.Named.{known_at, defined_from, defined_in, defined_by, first_named, or_else}
+use Rattle.tera_templates.specs.Templates.{definitions_of}
+use Rattle.tera_templates.specs.declared.templates.Template.{Template}
 use Rattle.tera_check.proofs.CatalogueLemmas.{or_none, more_known, template_next}
 use Rattle.tera_workspace.specs.Kept.{templates_of}
 use Rattle.tera_workspace.specs.Names.{contains_name}

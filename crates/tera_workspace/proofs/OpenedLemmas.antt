@@ -4,7 +4,7 @@ use Rattle.std.proofs.Common.{◌≡◌, ◌∙◌, ◌<◌, ◌+◌, ◌||◌, 
 use Rattle.std.specs.List.{list_any}
 use Rattle.std.specs.Str.{bytes_eq}
 use Rattle.std.proofs.lemmas.List.Edits.{map_over_more}
-use Rattle.tera_check.specs.Lost.{is_open, are_open}
+use Rattle.tera_templates.specs.Lost.{is_open, are_open}
 use Rattle.text_edits.specs.declared.positions.Encoding.{Encoding}
 use Rattle.tera_workspace.specs.Kept.{source_of, sources_of, templates_of, reported_of, reported_named, AllWhole, AreCurrent, StayKept, IsTextAt, made_stale, marked_if}
 use Rattle.tera_workspace.specs.Sources.{AreAscending, text_named}

@@ -3,7 +3,7 @@ use Rattle.std.proofs.Common.{◌≡◌, ◌≢◌, ◌∙◌, ◌<◌, ℕ, zer
 use Rattle.std.specs.List.{AllByRecursion, list_any}
 use Rattle.std.specs.Str.{bytes_eq}
 use Rattle.std.proofs.lemmas.Slice.Eq.{bytes_eq-Decides}
-use Rattle.tera_check.specs.Findings.{NoteVal, NoteOf, FindingVal, FoundAs}
+use Rattle.tera_findings.specs.Findings.{NoteVal, NoteOf, FindingVal, FoundAs}
 use Rattle.text_edits.specs.declared.positions.Encoding.{Encoding}
 use Rattle.tera_workspace.specs.Beside.{IsElsewhere, IsBeside}
 use Rattle.tera_workspace.specs.Diagnostics.{RelatedVal, DiagnosticVal, diagnostic_view, related_view, related_of, diagnostic_of, position_in}

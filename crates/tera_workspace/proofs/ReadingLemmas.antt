@@ -9,8 +9,8 @@ use Rattle.std.specs.declared.cmp.Ordering.TheVariants.{Less, Equal, Greater}
 use Rattle.std.proofs.lemmas.Map.Text.{is_eq-slice_cmp}
 use Rattle.std.specs.Str.{bytes_eq}
 use Rattle.std.proofs.lemmas.Slice.Eq.{bytes_eq-Decides}
-use Rattle.tera_check.specs.Lost.{are_open}
-use Rattle.tera_check.specs.Named.{definitions_of}
+use Rattle.tera_templates.specs.Lost.{are_open}
+use Rattle.tera_templates.specs.Templates.{definitions_of}
 use Rattle.tera_workspace.specs.Diagnostics.{DiagnosticVal}
 use Rattle.tera_workspace.specs.Heads.{definition_named, HaveOneHeadIfAny, HaveOneHeadIn}
 use Rattle.tera_workspace.specs.Kept.{source_of, sources_of, templates_of, reported_of, reported_named, has_name, IsNumbered, IsNewPlace, IsWhole, IsAnew, AllWhole, AreCurrent, StayKept, IsTextAt, marked}

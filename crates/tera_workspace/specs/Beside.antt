@@ -1,8 +1,8 @@
 -- What is found in a template, if none of its notes is in one file.
 use Rattle.std.specs.Prelude.{◌≡◌, ◌≢◌, ◌⊎◌, ℕ, List, Option, None, Some, nat_eq}
 use Rattle.std.specs.List.{AllByRecursion}
-use Rattle.tera_check.specs.Findings.{NoteVal, NoteOf, FindingVal, FoundAs}
-use Rattle.tera_check.specs.Judged.{KnownVal}
+use Rattle.tera_findings.specs.Findings.{NoteVal, NoteOf, FindingVal, FoundAs}
+use Rattle.tera_rules.specs.Judged.{KnownVal}
 
 -- the note is about another file than this one
 abbrev pub IsElsewhere : List ℕ → NoteVal → Type 0

@@ -5,9 +5,10 @@ use Rattle.std.specs.Option.{option_map_or}
 use Rattle.text_edits.specs.Documents.{text_of}
 use Rattle.text_edits.specs.Stored.{document_of}
 use Rattle.text_edits.specs.declared.documents.Documents.{Documents}
-use Rattle.tera_check.specs.Judged.{KnownVal}
-use Rattle.tera_check.specs.Named.{definitions_of, first_named, defined_by}
-use Rattle.tera_check.specs.declared.templates.Template.{Template}
+use Rattle.tera_rules.specs.Judged.{KnownVal}
+use Rattle.tera_templates.specs.Templates.{definitions_of}
+use Rattle.tera_check.specs.Named.{first_named, defined_by}
+use Rattle.tera_templates.specs.declared.templates.Template.{Template}
 use Rattle.tera_workspace.specs.Kept.{name_of, templates_of}
 use Rattle.tera_workspace.specs.declared.workspace.Workspace.{Workspace}
 

@@ -5,10 +5,11 @@ use Rattle.std.specs.Option.{option_map}
 use Rattle.text_edits.specs.declared.positions.Encoding.{Encoding}
 use Rattle.text_edits.specs.declared.positions.Position.{Position}
 use Rattle.tera_tree.specs.Tree.{Argument, Definition as TreeDefinition}
-use Rattle.tera_check.specs.Judged.{KnownVal}
-use Rattle.tera_check.specs.Named.{definitions_of, first_named, defined_by, span_at}
-use Rattle.tera_check.specs.Registered.{RegisteredVal}
-use Rattle.tera_check.specs.declared.templates.Template.{Template}
+use Rattle.tera_rules.specs.Judged.{KnownVal}
+use Rattle.tera_templates.specs.Templates.{definitions_of}
+use Rattle.tera_check.specs.Named.{first_named, defined_by, span_at}
+use Rattle.tera_rules.specs.Registered.{RegisteredVal}
+use Rattle.tera_templates.specs.declared.templates.Template.{Template}
 use Rattle.tera_workspace.specs.Components.{names_defined, components_by, parameters_by, files_by, components_of, parameters_of_name, files_of}
 use Rattle.tera_workspace.specs.Diagnostics.{position_in}
 use Rattle.tera_workspace.specs.Fresh.{AreTemplates}

@@ -4,9 +4,9 @@ use Rattle.text_edits.specs.Lines.{lines_of}
 use Rattle.text_edits.specs.Positions.{position_of, boundary_to}
 use Rattle.text_edits.specs.declared.positions.Encoding.{Encoding}
 use Rattle.text_edits.specs.declared.positions.Position.{Position}
-use Rattle.tera_check.specs.Findings.{NoteVal, NoteOf, FindingVal, FoundAs}
-use Rattle.tera_check.specs.declared.finding.Kind.{Kind}
-use Rattle.tera_check.specs.declared.finding.Severity.{Severity}
+use Rattle.tera_findings.specs.Findings.{NoteVal, NoteOf, FindingVal, FoundAs}
+use Rattle.tera_findings.specs.declared.finding.Kind.{Kind}
+use Rattle.tera_findings.specs.declared.finding.Severity.{Severity}
 use Rattle.tera_workspace.specs.Sources.{Source, text_named}
 use Rattle.tera_workspace.specs.declared.diagnostics.Diagnostic.{Diagnostic}
 use Rattle.tera_workspace.specs.declared.diagnostics.Related.{Related}

@@ -11,18 +11,18 @@ use Rattle.tera_parser.specs.Refusal.{LosesSource, Refuses}
 use Rattle.tera_statements.specs.Known.{grouped_of}
 use Rattle.tera_tree.specs.Outputs.{output_view}
 use Rattle.tera_tree.specs.Tree.{Output}
-use Rattle.tera_check.specs.Bodies.{HasHidden}
-use Rattle.tera_check.specs.Faults.{IsSyntaxError}
+use Rattle.tera_templates.specs.Templates.{HasHidden, tree_of}
+use Rattle.tera_findings.specs.Faults.{IsSyntaxError}
 use Rattle.tera_check.specs.Due.{due_findings}
-use Rattle.tera_check.specs.FaultFindings.{AreFaultsOf}
-use Rattle.tera_check.specs.Findings.{FindingVal, finding_view}
-use Rattle.tera_check.specs.Ignores.{AreIgnoresIn}
-use Rattle.tera_check.specs.Lost.{are_open}
-use Rattle.tera_check.specs.Mended.{IsMended, text_of}
-use Rattle.tera_check.specs.Named.{tree_of, first_named, defined_by}
+use Rattle.tera_templates.specs.FaultFindings.{AreFaultsOf}
+use Rattle.tera_findings.specs.Findings.{FindingVal, finding_view}
+use Rattle.tera_templates.specs.Ignores.{AreIgnoresIn}
+use Rattle.tera_templates.specs.Lost.{are_open}
+use Rattle.tera_templates.specs.Mended.{IsMended, text_of}
+use Rattle.tera_check.specs.Named.{first_named, defined_by}
 use Rattle.tera_check.specs.OrderAndStatus.{IsInOrder}
-use Rattle.tera_check.specs.declared.finding.Finding.{Finding}
-use Rattle.tera_check.specs.declared.templates.Template.{Template}
+use Rattle.tera_findings.specs.declared.finding.Finding.{Finding}
+use Rattle.tera_templates.specs.declared.templates.Template.{Template}
 use Rattle.text_edits.specs.declared.positions.Encoding.{Encoding}
 use Rattle.tera_workspace.specs.Diagnostics.{DiagnosticVal, diagnostic_of}
 use Rattle.tera_workspace.specs.Sources.{Source}

@@ -2,9 +2,8 @@
 use Rattle.std.specs.Prelude.{◌≡◌, ℕ, List, [], ◌∷◌, cond, Option, None, Some}
 use Rattle.std.specs.Str.{bytes_eq}
 use Rattle.tera_tree.specs.Tree.{Definition}
-use Rattle.tera_check.specs.Bodies.{shows_in}
-use Rattle.tera_check.specs.Named.{definitions_of}
-use Rattle.tera_check.specs.declared.templates.Template.{Template}
+use Rattle.tera_templates.specs.Templates.{definitions_of, shows_in}
+use Rattle.tera_templates.specs.declared.templates.Template.{Template}
 
 -- the first definition of a name
 abbrev pub definition_named : List ℕ → List Definition → Option Definition

@@ -1,7 +1,7 @@
 -- What is found in a document, by the components that all define.
 use Rattle.std.specs.Prelude.{◌≡◌, ℕ, List, map, false, slice_get, Option, None, Some}
 use Rattle.tera_check.specs.Named.{known_in, first_named, defined_by}
-use Rattle.tera_check.specs.declared.templates.Template.{Template}
+use Rattle.tera_templates.specs.declared.templates.Template.{Template}
 use Rattle.tera_workspace.specs.Fresh.{IsFound}
 use Rattle.tera_workspace.specs.Kept.{sources_of, templates_of}
 use Rattle.tera_workspace.specs.Names.{is_among}

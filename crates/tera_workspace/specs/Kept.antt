@@ -9,8 +9,8 @@ use Rattle.std.specs.Str.{bytes_eq}
 use Rattle.std.specs.declared.alloc.Global.{Global}
 use Rattle.tera_tree.specs.Outputs.{output_view}
 use Rattle.tera_check.specs.Alike.{names_in}
-use Rattle.tera_check.specs.Named.{tree_of}
-use Rattle.tera_check.specs.declared.templates.Template.{Template}
+use Rattle.tera_templates.specs.Templates.{tree_of}
+use Rattle.tera_templates.specs.declared.templates.Template.{Template}
 use Rattle.text_edits.specs.declared.positions.Encoding.{Encoding}
 use Rattle.tera_workspace.specs.Diagnostics.{DiagnosticVal, diagnostic_view}
 use Rattle.tera_workspace.specs.Fresh.{IsRead, IsReported}

@@ -3,9 +3,9 @@ use Rattle.std.specs.Prelude.{ℕ, List, [], Bool, map, string_bytes}
 use Rattle.std.specs.List.{find}
 use Rattle.std.specs.Option.{option_map_or}
 use Rattle.std.specs.Str.{bytes_eq}
-use Rattle.tera_check.specs.Registered.{RegisteredVal}
+use Rattle.tera_rules.specs.Registered.{RegisteredVal}
 use Rattle.tera_check.specs.Unknown.{due_unknown}
-use Rattle.tera_check.specs.declared.templates.Template.{Template}
+use Rattle.tera_templates.specs.declared.templates.Template.{Template}
 use Rattle.text_edits.specs.declared.positions.Encoding.{Encoding}
 use Rattle.tera_workspace.specs.Diagnostics.{DiagnosticVal, diagnostic_of}
 use Rattle.tera_workspace.specs.Kept.{sources_of, templates_of}

@@ -2,7 +2,7 @@
 
 ghost use Rattle.std.specs.Prelude.{◌≡◌, ◌∷◌, [], ℕ, List, true, IfOk, OnOk};
 ghost use Rattle.std.specs.Option.{option_map};
-ghost use Rattle.tera_check.specs.Judged.{known_view};
+ghost use Rattle.tera_rules.specs.Judged.{known_view};
 ghost use Rattle.tera_check.specs.Named.{known_in, defined_in, defined_by, first_named, or_else};
 ghost use Rattle.tera_workspace.specs.Kept.{templates_of};
 ghost use Rattle.tera_workspace.specs.Names.{contains_name};

@@ -1,7 +1,7 @@
 //! Findings, with positions instead of spans.
 
 ghost use Rattle.std.specs.Prelude.{◌≡◌, IfOk, map};
-ghost use Rattle.tera_check.specs.Findings.{finding_view, note_view};
+ghost use Rattle.tera_findings.specs.Findings.{finding_view, note_view};
 ghost use Rattle.tera_workspace.specs.Diagnostics.{diagnostic_view, related_view, diagnostic_of, related_of as reported_of_note, position_in};
 ghost use Rattle.tera_workspace.specs.Kept.{sources_of};
 ghost use Rattle.tera_workspace.specs.Sources.{AreAscending, text_named};

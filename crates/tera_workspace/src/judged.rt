@@ -4,8 +4,8 @@ ghost use Rattle.std.specs.Prelude.{◌≡◌, ◌++◌, IfOk, OnOk, map, string
 ghost use Rattle.std.specs.List.{flat_map};
 ghost use Rattle.tera_tree.specs.View.{definition_view};
 ghost use Rattle.tera_check.specs.Alike.{name_called};
-ghost use Rattle.tera_check.specs.Lost.{are_open};
-ghost use Rattle.tera_check.specs.Pending.{seen};
+ghost use Rattle.tera_templates.specs.Lost.{are_open};
+ghost use Rattle.tera_rules.specs.Pending.{seen};
 ghost use Rattle.tera_workspace.specs.Kept.{HasNames, IsAnew, IsNumbered, IsNewPlace, sources_of, templates_of};
 ghost use Rattle.tera_workspace.specs.Sources.{AreAscending};
 

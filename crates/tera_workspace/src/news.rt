@@ -2,7 +2,7 @@
 
 ghost use Rattle.std.specs.Prelude.{◌≡◌, ℕ, List, true, IfOk, length, map, string_bytes};
 ghost use Rattle.std.specs.Bool.{Decides};
-ghost use Rattle.tera_check.specs.Lost.{are_open};
+ghost use Rattle.tera_templates.specs.Lost.{are_open};
 ghost use Rattle.tera_check.specs.Named.{known_in, first_named, defined_by};
 ghost use Rattle.tera_workspace.specs.Kept.{IsWhole, AllWhole, NeedsAll, sources_of, templates_of, reported_of};
 ghost use Rattle.tera_workspace.specs.Names.{is_among};

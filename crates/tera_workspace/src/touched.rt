@@ -4,8 +4,8 @@ ghost use Rattle.std.specs.Prelude.{◌≡◌, ◌∷◌, [], ◌++◌, ◌||◌
 ghost use Rattle.std.specs.BTreeSet.{contains_text};
 ghost use Rattle.std.specs.List.{list_any};
 ghost use Rattle.tera_tree.specs.View.{definition_view};
-ghost use Rattle.tera_check.specs.Lost.{are_open};
-ghost use Rattle.tera_check.specs.Named.{definitions_of};
+ghost use Rattle.tera_templates.specs.Lost.{are_open};
+ghost use Rattle.tera_templates.specs.Templates.{definitions_of};
 ghost use Rattle.tera_workspace.specs.Heads.{definition_named, HaveOneHead, HaveOneHeadIfAny, HaveOneHeadIn};
 ghost use Rattle.tera_workspace.specs.Kept.{is_reported_in, made_stale, marked, marked_if, templates_of};
 ghost use Rattle.tera_workspace.specs.Names.{is_among};

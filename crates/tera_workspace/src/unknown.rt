@@ -1,7 +1,7 @@
 //! The filters, tests and functions in a document that the program does not have.
 
 ghost use Rattle.std.specs.Prelude.{◌≡◌, IfOk, map};
-ghost use Rattle.tera_check.specs.Registered.{registered_view};
+ghost use Rattle.tera_rules.specs.Registered.{registered_view};
 ghost use Rattle.tera_workspace.specs.Diagnostics.{diagnostic_view};
 ghost use Rattle.tera_workspace.specs.Kept.{sources_of};
 ghost use Rattle.tera_workspace.specs.Sources.{AreAscending};

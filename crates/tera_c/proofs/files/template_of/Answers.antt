@@ -1,7 +1,7 @@
 use Rattle.std.proofs.Common.{rules, ◌≡◌, [], List, ℕ, MatchOption, map, subst}
 use Rattle.tera_c.proofs.files.template_of.Goals as goal
-use Rattle.tera_check.specs.Mended.{text_of}
-use Rattle.tera_check.specs.Named.{tree_of}
+use Rattle.tera_templates.specs.Mended.{text_of}
+use Rattle.tera_templates.specs.Templates.{tree_of}
 use Rattle.tera_grammar.specs.Limits.{usual}
 use Rattle.tera_grammar.specs.statements.Places.{Places}
 use Rattle.tera_grammar.specs.statements.Reading.Meeting.{group_all, nothing_grouped}

@@ -1,6 +1,6 @@
 use Rattle.std.proofs.Common.{◌≡◌, ◌++◌, drop, map}
 use Rattle.std.specs.List.{flat_map}
-use Rattle.tera_check.specs.Findings.{finding_view}
+use Rattle.tera_findings.specs.Findings.{finding_view}
 use Rattle.tera_c.specs.FilesTogether.{finding_line}
 use Rattle.tera_c.proofs.findings.push_lines.Given as goal
 

@@ -1,5 +1,5 @@
 use Rattle.std.proofs.Common.{◌≡◌, ◌<◌, length, get_or, map, ap, arith}
-use Rattle.tera_check.specs.Judged.{known_view}
+use Rattle.tera_rules.specs.Judged.{known_view}
 use Rattle.tera_catalogue.proofs.ListedLemmas.{template_next}
 use Rattle.tera_catalogue.proofs.components.all_known.Goals as goal
 

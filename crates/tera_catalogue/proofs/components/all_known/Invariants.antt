@@ -1,5 +1,5 @@
 use Rattle.std.proofs.Common.{◌≡◌, ◌++◌, drop, map}
-use Rattle.tera_check.specs.Judged.{known_view}
+use Rattle.tera_rules.specs.Judged.{known_view}
 use Rattle.tera_check.specs.Named.{defined_by}
 use Rattle.tera_catalogue.proofs.components.all_known.Given as goal
 

@@ -1,7 +1,7 @@
 use Rattle.std.proofs.Common.{rules, [], ◌∷◌, ◌++◌, subst, sym}
 use Rattle.std.proofs.lemmas.List.Elements.{All-push}
 use Rattle.std.specs.List.{All}
-use Rattle.tera_check.specs.Judged.{known_view}
+use Rattle.tera_rules.specs.Judged.{known_view}
 use Rattle.tera_catalogue.specs.Listed.{listed, listed_view}
 use Rattle.tera_catalogue.specs.Offered.{IsOffered}
 use Rattle.tera_catalogue.proofs.ListedLemmas.{reported_next}

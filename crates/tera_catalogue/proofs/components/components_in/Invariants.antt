@@ -1,6 +1,6 @@
 use Rattle.std.proofs.Common.{◌≡◌, ◌++◌, drop, map}
 use Rattle.std.specs.List.{All}
-use Rattle.tera_check.specs.Judged.{known_view}
+use Rattle.tera_rules.specs.Judged.{known_view}
 use Rattle.tera_catalogue.specs.Listed.{listed, listed_view}
 use Rattle.tera_catalogue.specs.Offered.{IsOffered}
 use Rattle.tera_catalogue.proofs.components.components_in.Given as goal

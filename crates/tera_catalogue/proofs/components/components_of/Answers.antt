@@ -1,6 +1,6 @@
 use Rattle.std.proofs.Common.{sym}
 use Rattle.std.proofs.lemmas.List.Sorted.{IsPermutation-map}
-use Rattle.tera_check.specs.Judged.{known_view}
+use Rattle.tera_rules.specs.Judged.{known_view}
 use Rattle.tera_catalogue.specs.Listed.{listed}
 use Rattle.tera_catalogue.proofs.components.components_of.Goals as goal
 

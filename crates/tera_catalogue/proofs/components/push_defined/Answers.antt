@@ -1,5 +1,5 @@
 use Rattle.std.proofs.Common.{◌++◌, ap, map, sym}
-use Rattle.tera_check.specs.Judged.{known_view}
+use Rattle.tera_rules.specs.Judged.{known_view}
 use Rattle.tera_check.specs.Named.{defined_from}
 use Rattle.tera_catalogue.proofs.components.push_defined.Goals as goal
 

@@ -1,5 +1,5 @@
 use Rattle.std.proofs.Common.{◌≡◌, ◌++◌, drop, map}
-use Rattle.tera_check.specs.Judged.{known_view}
+use Rattle.tera_rules.specs.Judged.{known_view}
 use Rattle.tera_check.specs.Named.{defined_from, defined_in}
 use Rattle.tera_tree.specs.View.{definition_view}
 use Rattle.tera_catalogue.proofs.components.push_defined.Given as goal

@@ -2,8 +2,8 @@ use Rattle.std.proofs.Common.{rules, map}
 use Rattle.std.proofs.lemmas.List.Sorted.{answers_always}
 use Rattle.std.specs.List.Sorted.{IsSortedBy}
 use Rattle.std.specs.Ordering.{is_lt}
-use Rattle.tera_check.specs.Judged.{known_view}
-use Rattle.tera_check.specs.declared.catalogue.Known.{Known}
+use Rattle.tera_rules.specs.Judged.{known_view}
+use Rattle.tera_rules.specs.declared.known.Known.{Known}
 use Rattle.tera_catalogue.specs.Listed.{Rank, listed, rank_of, rank_cmp}
 use Rattle.tera_catalogue.proofs.ListedLemmas.{ranked, sorted_map}
 use Rattle.tera_catalogue.proofs.components.put_in_order.Goals as goal

@@ -2,7 +2,7 @@ use Rattle.std.proofs.Common.{◌≡◌, ◌∙◌, rules, sym, ap, cond, Some, 
 use Rattle.std.specs.BTreeMap.{get_by_text}
 use Rattle.std.specs.Option.{option_map}
 use Rattle.std.proofs.lemmas.Map.Text.{btree_map_updates_text}
-use Rattle.tera_check.specs.Judged.{known_view}
+use Rattle.tera_rules.specs.Judged.{known_view}
 use Rattle.tera_check.specs.Named.{known_in}
 use Rattle.tera_check.proofs.CatalogueLemmas.{some_known, none_known, known_by, kept, added}
 use Rattle.tera_check.proofs.catalogue.add_known.Goals as goal

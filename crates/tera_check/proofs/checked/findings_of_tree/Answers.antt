@@ -1,4 +1,4 @@
-use Rattle.tera_check.proofs.JudgedLemmas.{all_found_in}
+use Rattle.tera_rules.proofs.JudgedLemmas.{all_found_in}
 use Rattle.tera_check.proofs.checked.findings_of_tree.Goals as goal
 
 pub returns : goal.returns

@@ -1,7 +1,7 @@
 use Rattle.std.proofs.Common.{◌≡◌, ◌++◌, drop, map}
 use Rattle.tera_tree.specs.View.{definition_view}
-use Rattle.tera_check.specs.Findings.{finding_view}
-use Rattle.tera_check.specs.Judged.{again_findings}
+use Rattle.tera_findings.specs.Findings.{finding_view}
+use Rattle.tera_rules.specs.Judged.{again_findings}
 use Rattle.tera_check.specs.Named.{known_in, span_at}
 use Rattle.tera_check.proofs.checked.push_all_again.Given as goal
 

@@ -2,8 +2,9 @@ use Rattle.std.proofs.Common.{◌≡◌, ◌∙◌, ◌++◌, [], Some, ap, filt
 use Rattle.std.specs.Option.{option_map_or}
 use Rattle.tera_tree.specs.Outputs.{output_view}
 use Rattle.tera_check.specs.Due.{due_among, due_findings, is_due}
-use Rattle.tera_check.specs.Findings.{finding_view}
-use Rattle.tera_check.specs.Named.{known_in, tree_findings, tree_of}
+use Rattle.tera_findings.specs.Findings.{finding_view}
+use Rattle.tera_check.specs.Named.{known_in, tree_findings}
+use Rattle.tera_templates.specs.Templates.{tree_of}
 use Rattle.tera_check.specs.Silenced.{unused_ignores}
 use Rattle.tera_check.proofs.checked.push_all_due.Goals as goal
 

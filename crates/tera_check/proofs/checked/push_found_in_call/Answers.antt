@@ -2,9 +2,9 @@ use Rattle.std.proofs.Common.{◌≡◌, ◌∙◌, ap, string_bytes}
 use Rattle.std.specs.Option.{option_map}
 use Rattle.tera_base.specs.Spanned.{node_of}
 use Rattle.tera_ast.specs.declared.ast.ComponentCall.{out-ComponentCall}
-use Rattle.tera_check.specs.Judged.{known_view}
+use Rattle.tera_rules.specs.Judged.{known_view}
 use Rattle.tera_check.specs.Named.{known_in}
-use Rattle.tera_check.proofs.JudgedLemmas.{judged_call}
+use Rattle.tera_rules.proofs.JudgedLemmas.{judged_call}
 use Rattle.tera_check.proofs.checked.push_found_in_call.Goals as goal
 
 pub returns : goal.returns

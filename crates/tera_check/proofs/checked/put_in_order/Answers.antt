@@ -1,6 +1,6 @@
 use Rattle.std.proofs.Common.{rules}
 use Rattle.std.proofs.lemmas.List.Sorted.{answers_always}
-use Rattle.tera_check.specs.Findings.{place_of}
+use Rattle.tera_findings.specs.Findings.{place_of}
 use Rattle.tera_check.proofs.checked.put_in_order.Goals as goal
 
 pub returns-clause-ordered : goal.returns-clause-ordered

@@ -1,7 +1,7 @@
 use Rattle.std.proofs.Common.{◌≡◌, ◌∙◌, ◌<◌, ◌+◌, [], ◌∷◌, ◌++◌, length, take, get_or, sym, ap, subst, arith}
 use Rattle.std.proofs.lemmas.List.{take_more, length-take-le}
 use Rattle.tera_check.specs.Named.{known_in}
-use Rattle.tera_check.specs.Lost.{are_open}
+use Rattle.tera_templates.specs.Lost.{are_open}
 use Rattle.tera_check.specs.Found.{AreFound, none, IsFoundOf, IsFoundUnder, known_by}
 use Rattle.tera_check.specs.declared.found.Found.{Found}
 use Rattle.tera_check.proofs.FoundLemmas.{found_more, same_answers}

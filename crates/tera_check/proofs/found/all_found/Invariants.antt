@@ -1,5 +1,5 @@
 use Rattle.std.proofs.Common.{take}
-use Rattle.tera_check.specs.Lost.{are_open}
+use Rattle.tera_templates.specs.Lost.{are_open}
 use Rattle.tera_check.specs.Found.{AreFound, known_by}
 use Rattle.tera_check.proofs.found.all_found.Given as goal
 

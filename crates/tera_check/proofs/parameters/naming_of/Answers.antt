@@ -3,7 +3,7 @@ use Rattle.std.specs.Option.{is_some}
 use Rattle.tera_ast.specs.View.{nodes_view}
 use Rattle.tera_check.specs.Named.{known_in, taken_in}
 use Rattle.tera_check.specs.Parameters.{named_in_nodes}
-use Rattle.tera_check.specs.Repeated.{span_under}
+use Rattle.tera_rules.specs.Repeated.{span_under}
 use Rattle.tera_check.specs.Scopes.{is_hidden, is_named, is_to_come, named_in_scope}
 use Rattle.tera_check.proofs.ParametersLemmas.{scope_more}
 use Rattle.tera_check.proofs.parameters.naming_of.Goals as goal

@@ -1,7 +1,7 @@
 use Rattle.std.proofs.Common.{◌++◌, map}
 use Rattle.std.specs.List.{flat_map}
 use Rattle.tera_tree.specs.View.{definition_view}
-use Rattle.tera_check.specs.Findings.{finding_view}
+use Rattle.tera_findings.specs.Findings.{finding_view}
 use Rattle.tera_check.specs.Named.{known_in, taken_in}
 use Rattle.tera_check.specs.Parameters.{parameter_at, unused_in}
 use Rattle.tera_check.proofs.ParametersLemmas.{definition_next}

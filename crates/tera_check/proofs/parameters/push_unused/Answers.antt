@@ -2,7 +2,7 @@ use Rattle.std.proofs.Common.{◌≡◌, ◌∙◌, ◌++◌, false, map, ap, su
 use Rattle.std.specs.List.{flat_map}
 use Rattle.tera_ast.specs.View.{nodes_of}
 use Rattle.tera_tree.specs.View.{definition_view}
-use Rattle.tera_check.specs.Findings.{finding_view}
+use Rattle.tera_findings.specs.Findings.{finding_view}
 use Rattle.tera_check.specs.Named.{known_in, taken_in}
 use Rattle.tera_check.specs.Parameters.{named_in_nodes, parameter_at, unused_if, unused_of, unused_rest}
 use Rattle.tera_check.specs.Scopes.{is_named}

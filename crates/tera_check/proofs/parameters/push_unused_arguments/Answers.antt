@@ -2,7 +2,7 @@ use Rattle.std.proofs.Common.{◌∙◌, ◌++◌, ℕ, List, map, ap}
 use Rattle.std.specs.List.{flat_map}
 use Rattle.tera_tree.specs.Tree.{Argument}
 use Rattle.tera_tree.specs.View.{definition_view}
-use Rattle.tera_check.specs.Findings.{FindingVal, finding_view}
+use Rattle.tera_findings.specs.Findings.{FindingVal, finding_view}
 use Rattle.tera_check.specs.Parameters.{parameter_at, unused_if}
 use Rattle.tera_check.specs.Scopes.{is_named}
 use Rattle.tera_check.proofs.ParametersLemmas.{argument_next}

@@ -1,7 +1,7 @@
 use Rattle.std.proofs.Common.{◌≡◌, ◌||◌, ◌&&◌, not, ℕ, List, map, string_bytes}
 use Rattle.std.specs.List.{list_any}
 use Rattle.tera_tree.specs.View.{argument_view, definition_view}
-use Rattle.tera_check.specs.Judged.{takes_it}
+use Rattle.tera_rules.specs.Judged.{takes_it}
 use Rattle.tera_check.specs.Scopes.{is_hidden, is_named}
 use Rattle.tera_check.proofs.parameters.take_implicit.Given as goal
 

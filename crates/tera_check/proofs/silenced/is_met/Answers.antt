@@ -1,8 +1,8 @@
 use Rattle.std.proofs.Common.{◌≡◌, ◌∙◌, ap, sym, true, false}
 use Rattle.std.specs.List.{Contains, list_any}
 use Rattle.std.specs.Prelude.{◌&&◌, ◌||◌}
-use Rattle.tera_check.specs.Ignores.{ignore_view}
-use Rattle.tera_check.specs.Lost.{places_under}
+use Rattle.tera_templates.specs.Ignores.{ignore_view}
+use Rattle.tera_templates.specs.Lost.{places_under}
 use Rattle.tera_check.specs.Silenced.{has_finding_at, next_line, silences}
 use Rattle.tera_check.proofs.SilencedLemmas.{decided, met_lines}
 use Rattle.tera_check.proofs.silenced.is_met.Goals as goal

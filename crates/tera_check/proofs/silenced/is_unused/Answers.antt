@@ -1,7 +1,7 @@
 use Rattle.std.specs.Prelude.{◌≡◌, ◌&&◌, true, false, not, string_bytes}
 use Rattle.std.specs.List.{list_any}
 use Rattle.std.proofs.Common.{◌∙◌, ap, sym}
-use Rattle.tera_check.specs.Ignores.{ignore_view}
+use Rattle.tera_templates.specs.Ignores.{ignore_view}
 use Rattle.tera_check.specs.Silenced.{is_judged, is_unused, silences}
 use Rattle.tera_check.proofs.silenced.is_unused.Goals as goal
 

@@ -2,10 +2,10 @@ use Rattle.std.proofs.Common.{◌≡◌, ◌⊎◌, ◌+◌, drop, map, sym, ap,
 use Rattle.std.proofs.lemmas.List.{drop_all}
 use Rattle.std.specs.List.{Contains}
 use Rattle.std.specs.Prelude.{◌↔◌}
-use Rattle.tera_check.specs.Findings.{finding_view}
-use Rattle.tera_check.specs.Lost.{places_under}
+use Rattle.tera_findings.specs.Findings.{finding_view}
+use Rattle.tera_templates.specs.Lost.{places_under}
 use Rattle.tera_check.specs.Silenced.{begins_at, has_finding_at}
-use Rattle.tera_check.proofs.PlaceLemmas.{none_under}
+use Rattle.tera_templates.proofs.PlaceLemmas.{none_under}
 use Rattle.tera_check.proofs.SilencedLemmas.{IsPut, finding_put, next_left, none_left, none_there, one_taken}
 use Rattle.tera_check.proofs.silenced.lines_of.Goals as goal
 

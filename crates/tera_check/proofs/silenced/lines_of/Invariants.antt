@@ -1,7 +1,7 @@
 use Rattle.std.proofs.Common.{drop, map}
 use Rattle.std.specs.List.{Contains}
-use Rattle.tera_check.specs.Findings.{finding_view}
-use Rattle.tera_check.specs.Lost.{places_under}
+use Rattle.tera_findings.specs.Findings.{finding_view}
+use Rattle.tera_templates.specs.Lost.{places_under}
 use Rattle.tera_check.specs.Silenced.{has_finding_at}
 use Rattle.tera_check.proofs.SilencedLemmas.{IsWith}
 use Rattle.tera_check.proofs.silenced.lines_of.Given as goal

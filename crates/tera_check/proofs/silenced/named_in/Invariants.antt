@@ -1,6 +1,6 @@
 use Rattle.std.proofs.Common.{◌≡◌, drop, bytes_eq}
 use Rattle.std.specs.List.{find}
-use Rattle.tera_check.specs.Findings.{kind_name}
+use Rattle.tera_findings.specs.Findings.{kind_name}
 use Rattle.tera_check.proofs.silenced.named_in.Given as goal
 
 abbrev pub invariant-loop-kind : goal.invariant-loop-kind

@@ -1,6 +1,6 @@
 use Rattle.std.proofs.Common.{◌≡◌, ◌∙◌, ◌∷◌, [], ◌++◌, map, sym, ap, subst, append-nil, OnOk}
-use Rattle.tera_check.specs.Findings.{finding_view}
-use Rattle.tera_check.specs.Ignores.{ignore_view}
+use Rattle.tera_findings.specs.Findings.{finding_view}
+use Rattle.tera_templates.specs.Ignores.{ignore_view}
 use Rattle.tera_check.proofs.SilencedLemmas.{no_unused, one_unused}
 use Rattle.tera_check.proofs.silenced.push_if_unused.Goals as goal
 

@@ -1,6 +1,6 @@
 use Rattle.std.proofs.Common.{◌∙◌, ◌+◌, ◌∷◌, [], ◌++◌, drop, map, sym, ap, append_assoc}
-use Rattle.tera_check.specs.Findings.{finding_view}
-use Rattle.tera_check.specs.Ignores.{ignore_view, ignores_view}
+use Rattle.tera_findings.specs.Findings.{finding_view}
+use Rattle.tera_templates.specs.Ignores.{ignore_view, ignores_view}
 use Rattle.tera_check.specs.Silenced.{unused_among}
 use Rattle.tera_check.proofs.SilencedLemmas.{next_left, unused_next}
 use Rattle.tera_check.proofs.silenced.push_unused.Goals as goal

@@ -1,6 +1,6 @@
 use Rattle.std.proofs.Common.{◌≡◌, ◌++◌, drop, map}
-use Rattle.tera_check.specs.Findings.{finding_view}
-use Rattle.tera_check.specs.Ignores.{ignores_view}
+use Rattle.tera_findings.specs.Findings.{finding_view}
+use Rattle.tera_templates.specs.Ignores.{ignores_view}
 use Rattle.tera_check.specs.Silenced.{unused_among}
 use Rattle.tera_check.proofs.silenced.push_unused.Given as goal
 

@@ -1,8 +1,8 @@
 use Rattle.std.proofs.Common.{subst}
 use Rattle.std.proofs.lemmas.Result.{IfOk-weaker}
 use Rattle.std.specs.List.{Contains}
-use Rattle.tera_check.specs.Ignores.{ignore_view}
-use Rattle.tera_check.specs.Lost.{places_under}
+use Rattle.tera_templates.specs.Ignores.{ignore_view}
+use Rattle.tera_templates.specs.Lost.{places_under}
 use Rattle.tera_check.proofs.SilencedLemmas.{IsPut, both_put, one_put}
 use Rattle.tera_check.proofs.silenced.put_ignore.Goals as goal
 

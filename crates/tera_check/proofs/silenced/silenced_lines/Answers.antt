@@ -2,10 +2,10 @@ use Rattle.std.proofs.Common.{◌≡◌, ◌⊎◌, ◌+◌, drop, sym, ap, subs
 use Rattle.std.proofs.lemmas.List.{drop_all}
 use Rattle.std.specs.List.{Contains}
 use Rattle.std.specs.Prelude.{◌↔◌}
-use Rattle.tera_check.specs.Ignores.{ignore_view, ignores_view}
-use Rattle.tera_check.specs.Lost.{places_under}
+use Rattle.tera_templates.specs.Ignores.{ignore_view, ignores_view}
+use Rattle.tera_templates.specs.Lost.{places_under}
 use Rattle.tera_check.specs.Silenced.{is_silenced_at, silences_at}
-use Rattle.tera_check.proofs.PlaceLemmas.{none_under}
+use Rattle.tera_templates.proofs.PlaceLemmas.{none_under}
 use Rattle.tera_check.proofs.SilencedLemmas.{next_left, none_left, none_there, one_taken}
 use Rattle.tera_check.proofs.silenced.silenced_lines.Goals as goal
 

@@ -1,7 +1,7 @@
 use Rattle.std.proofs.Common.{drop}
 use Rattle.std.specs.List.{Contains}
-use Rattle.tera_check.specs.Ignores.{ignores_view}
-use Rattle.tera_check.specs.Lost.{places_under}
+use Rattle.tera_templates.specs.Ignores.{ignores_view}
+use Rattle.tera_templates.specs.Lost.{places_under}
 use Rattle.tera_check.specs.Silenced.{is_silenced_at}
 use Rattle.tera_check.proofs.SilencedLemmas.{IsWith}
 use Rattle.tera_check.proofs.silenced.silenced_lines.Given as goal

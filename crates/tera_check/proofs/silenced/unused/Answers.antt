@@ -1,7 +1,7 @@
 use Rattle.std.proofs.Common.{◌∙◌, [], ap}
-use Rattle.tera_check.specs.Findings.{FindingOf}
+use Rattle.tera_findings.specs.Findings.{FindingOf}
 use Rattle.tera_check.specs.Silenced.{unused_ignore_text}
-use Rattle.tera_check.specs.declared.finding.Kind.TheVariants as kinds
+use Rattle.tera_findings.specs.declared.finding.Kind.TheVariants as kinds
 use Rattle.tera_check.proofs.silenced.unused.Goals as goal
 
 pub returns : goal.returns

@@ -1,5 +1,5 @@
 use Rattle.std.proofs.Common.{◌≡◌, arith, subst}
-use Rattle.tera_check.specs.Registered.{registered_view}
+use Rattle.tera_rules.specs.Registered.{registered_view}
 use Rattle.tera_check.specs.Unknown.{AreWithUnknown, due_unknown}
 use Rattle.tera_check.proofs.AddedLemmas.{added_more, none_yet}
 use Rattle.tera_check.proofs.unknown.add_unknown.Goals as goal

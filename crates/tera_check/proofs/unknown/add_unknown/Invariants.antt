@@ -1,4 +1,4 @@
-use Rattle.tera_check.specs.Registered.{registered_view}
+use Rattle.tera_rules.specs.Registered.{registered_view}
 use Rattle.tera_check.specs.Unknown.{AreWithUnknown}
 use Rattle.tera_check.proofs.unknown.add_unknown.Given as goal
 

@@ -1,6 +1,6 @@
-use Rattle.tera_check.specs.Registered.{registered_view}
+use Rattle.tera_rules.specs.Registered.{registered_view}
 use Rattle.tera_check.specs.Unknown.{unknown_in}
-use Rattle.tera_check.proofs.Pending.{emptied}
+use Rattle.tera_rules.proofs.Pending.{emptied}
 use Rattle.tera_check.proofs.UnknownLemmas.{all_taken}
 use Rattle.tera_check.proofs.unknown.push_all_unknown.Goals as goal
 

@@ -2,10 +2,10 @@ use Rattle.std.proofs.Common.{◌≡◌, ◌++◌, map}
 use Rattle.std.specs.List.{flat_map}
 use Rattle.tera_tree.specs.Outputs.{output_view}
 use Rattle.tera_tree.specs.Parts.{parts_view}
-use Rattle.tera_check.specs.Findings.{finding_view}
-use Rattle.tera_check.specs.Registered.{registered_view}
+use Rattle.tera_findings.specs.Findings.{finding_view}
+use Rattle.tera_rules.specs.Registered.{registered_view}
 use Rattle.tera_check.specs.Unknown.{unknown_findings, unknown_in}
-use Rattle.tera_check.specs.Within.{all_parts}
+use Rattle.tera_rules.specs.Within.{all_parts}
 use Rattle.tera_check.proofs.unknown.push_all_unknown.Given as goal
 
 abbrev pub invariant-loop-part : goal.invariant-loop-part

@@ -1,5 +1,5 @@
 use Rattle.std.proofs.Common.{◌∙◌, ◌++◌, ap, map, sym}
-use Rattle.tera_check.specs.Findings.{finding_view}
+use Rattle.tera_findings.specs.Findings.{finding_view}
 use Rattle.tera_check.specs.Named.{span_at}
 use Rattle.tera_check.specs.UnusedComponents.{is_called, unused_component_if, unused_components}
 use Rattle.tera_check.proofs.UnusedLemmas.{unused_next}

@@ -1,7 +1,8 @@
 use Rattle.std.proofs.Common.{◌≡◌, ◌++◌, drop, map}
 use Rattle.tera_tree.specs.View.{definition_view}
-use Rattle.tera_check.specs.Findings.{finding_view}
-use Rattle.tera_check.specs.Named.{definitions_of, span_at}
+use Rattle.tera_findings.specs.Findings.{finding_view}
+use Rattle.tera_templates.specs.Templates.{definitions_of}
+use Rattle.tera_check.specs.Named.{span_at}
 use Rattle.tera_check.specs.UnusedComponents.{is_called, unused_components}
 use Rattle.tera_check.proofs.unused_components.push_all_unused.Given as goal
 

@@ -1,6 +1,6 @@
 use Rattle.std.proofs.Common.{map}
-use Rattle.tera_check.specs.Pending.{seen}
-use Rattle.tera_check.specs.Registered.{has_name}
+use Rattle.tera_rules.specs.Pending.{seen}
+use Rattle.tera_rules.specs.Registered.{has_name}
 use Rattle.tera_check.specs.UnusedComponents.{is_called}
 use Rattle.tera_check.proofs.UnusedLemmas.{with_calls, with_fault}
 use Rattle.tera_check.proofs.unused_components.put_called.Goals as goal

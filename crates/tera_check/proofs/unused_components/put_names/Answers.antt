@@ -3,7 +3,7 @@ use Rattle.std.specs.Prelude.{◌||◌}
 use Rattle.std.specs.Str.{bytes_eq}
 use Rattle.tera_base.specs.Spanned.{node_of}
 use Rattle.tera_ast.specs.declared.ast.ComponentCall.{out-ComponentCall}
-use Rattle.tera_check.specs.Registered.{has_name}
+use Rattle.tera_rules.specs.Registered.{has_name}
 use Rattle.tera_check.proofs.UnusedLemmas.{one_more}
 use Rattle.tera_check.proofs.unused_components.put_names.Goals as goal
 

@@ -1,8 +1,8 @@
 use Rattle.std.proofs.Common.{◌≡◌, ℕ, List, map}
 use Rattle.std.specs.Prelude.{◌||◌}
 use Rattle.std.specs.List.{list_any}
-use Rattle.tera_check.specs.Pending.{seen}
-use Rattle.tera_check.specs.Registered.{has_name}
+use Rattle.tera_rules.specs.Pending.{seen}
+use Rattle.tera_rules.specs.Registered.{has_name}
 use Rattle.tera_check.specs.UnusedComponents.{is_call_of}
 use Rattle.tera_check.proofs.unused_components.put_names.Given as goal
 

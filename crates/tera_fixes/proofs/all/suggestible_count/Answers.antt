@@ -1,7 +1,7 @@
 use Rattle.std.proofs.Common.{rules, tests, ◌∙◌, Bor}
 use Rattle.std.proofs.lemmas.Iterator.{YieldsList-from_slice}
 use Rattle.std.proofs.lemmas.Iterator.Consumers.{YieldsList-from_filter, count_from_yields_List}
-use Rattle.tera_check.specs.declared.finding.Finding.{Finding}
+use Rattle.tera_findings.specs.declared.finding.Finding.{Finding}
 use Rattle.tera_fixes.specs.All.{is_suggestible}
 use Rattle.tera_fixes.proofs.AllLemmas.{as_many}
 use Rattle.tera_fixes.proofs.all.suggestible_count.Goals as goal

@@ -1,4 +1,4 @@
-use Rattle.tera_check.proofs.DueLemmas.{boundary_is}
+use Rattle.tera_templates.proofs.BoundaryLemmas.{boundary_is}
 use Rattle.tera_fixes.proofs.parts.is_boundary.Goals as goal
 
 pub returns : goal.returns

@@ -2,7 +2,7 @@ use Rattle.std.proofs.Common.{◌≡◌, IfOk, map, subst}
 use Rattle.terminal_text.specs.Files.{source_of}
 use Rattle.tera_jobs.specs.Sources.{nothing, unreadable_view, with_sources}
 use Rattle.tera_check.specs.Levels.{level_of}
-use Rattle.tera_check.specs.Registered.{registered_if_any}
+use Rattle.tera_rules.specs.Registered.{registered_if_any}
 use Rattle.tera_jobs.specs.Report.{IsReported}
 use Rattle.tera_jobs.proofs.Same.{same_answers}
 use Rattle.tera_jobs.proofs.check.write_all_findings.Goals as goal

@@ -1,7 +1,7 @@
 use Rattle.std.proofs.Common.{rules, ◌≡◌, ◌∙◌, Bor, List, ap, bytes_eq, map, string_bytes, true}
 use Rattle.tera_check.specs.Found.{IsAllOf}
 use Rattle.tera_check.specs.Named.{known_in}
-use Rattle.tera_check.specs.declared.finding.Finding.{Finding}
+use Rattle.tera_findings.specs.declared.finding.Finding.{Finding}
 use Rattle.tera_jobs.specs.Sources.{marks_in}
 use Rattle.tera_jobs.proofs.FixingLemmas.{fix_of_found}
 use Rattle.tera_jobs.proofs.fixing.fix_of.Goals as goal

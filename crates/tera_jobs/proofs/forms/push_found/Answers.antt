@@ -1,5 +1,5 @@
 use Rattle.std.proofs.Common.{◌≡◌, ◌∙◌, ◌<◌, ◌++◌, ℕ, List, Option, length, get_or, option_map, ap, subst, arith}
-use Rattle.tera_check.specs.Findings.{finding_view}
+use Rattle.tera_findings.specs.Findings.{finding_view}
 use Rattle.terminal_text.specs.Files.{source_of}
 use Rattle.tera_jobs.specs.Forms.{finding_text}
 use Rattle.tera_jobs.specs.Helps.{help_in}

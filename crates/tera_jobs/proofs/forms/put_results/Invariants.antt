@@ -1,6 +1,6 @@
 use Rattle.std.proofs.Common.{◌≡◌, ◌++◌, drop, map}
 use Rattle.std.specs.List.{flat_map}
-use Rattle.tera_check.specs.Findings.{finding_view}
+use Rattle.tera_findings.specs.Findings.{finding_view}
 use Rattle.tera_report.specs.Logs.{result_object}
 use Rattle.tera_jobs.proofs.forms.put_results.Given as goal
 

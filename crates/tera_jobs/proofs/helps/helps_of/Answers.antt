@@ -2,7 +2,7 @@ use Rattle.std.proofs.Common.{rules, ◌≡◌, ◌∙◌, ℕ, List, Some, Bor,
 use Rattle.std.proofs.lemmas.List.{length_push}
 use Rattle.std.proofs.lemmas.Option.{get_or_from_slice_get}
 use Rattle.tera_check.specs.declared.found.Found.{Found}
-use Rattle.tera_check.specs.declared.templates.Template.{Template}
+use Rattle.tera_templates.specs.declared.templates.Template.{Template}
 use Rattle.tera_files.specs.declared.reading.Source.{Source}
 use Rattle.tera_fixes.specs.Names.{component_names}
 use Rattle.tera_fixes.proofs.ComponentsLemmas.{no_meanings}

@@ -1,5 +1,5 @@
 use Rattle.std.proofs.Common.{◌≡◌, ◌∙◌, ◌++◌, string_bytes, subst}
-use Rattle.tera_check.specs.Findings.{finding_view}
+use Rattle.tera_findings.specs.Findings.{finding_view}
 use Rattle.tera_report.specs.FullTexts.{full_text}
 use Rattle.terminal_text.specs.Files.{source_of}
 use Rattle.tera_jobs.proofs.Lists.{reported_more}

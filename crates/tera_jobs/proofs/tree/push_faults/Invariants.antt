@@ -1,6 +1,6 @@
 use Rattle.std.proofs.Common.{◌≡◌, ◌++◌, ℕ, List, drop, map, string_bytes}
 use Rattle.std.specs.List.{flat_map}
-use Rattle.tera_check.specs.Findings.{finding_view}
+use Rattle.tera_findings.specs.Findings.{finding_view}
 use Rattle.tera_report.specs.FullTexts.{full_text}
 use Rattle.terminal_text.specs.Files.{source_of}
 use Rattle.tera_jobs.proofs.tree.push_faults.Given as goal

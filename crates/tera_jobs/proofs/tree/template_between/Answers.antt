@@ -1,8 +1,8 @@
 use Rattle.std.proofs.Common.{◌∙◌, ◌≡◌, List, ℕ, Option, None, IfErr, IfOk, IfSome, MatchOption, string_bytes, subst, sym}
-use Rattle.tera_check.specs.Ignores.{AreIgnoresIn}
-use Rattle.tera_check.specs.Mended.{IsMended, text_by}
-use Rattle.tera_check.specs.Named.{tree_of}
-use Rattle.tera_check.specs.declared.mended.Mended.{Mended}
+use Rattle.tera_templates.specs.Ignores.{AreIgnoresIn}
+use Rattle.tera_templates.specs.Mended.{IsMended, text_by}
+use Rattle.tera_templates.specs.Templates.{tree_of}
+use Rattle.tera_templates.specs.declared.mended.Mended.{Mended}
 use Rattle.tera_grammar.specs.Limits.{usual}
 use Rattle.tera_grammar.specs.statements.Places.{Places}
 use Rattle.tera_grammar.specs.statements.Top.{Derives, DerivesNames}

@@ -1,7 +1,7 @@
 use Rattle.std.proofs.Common.{◌∙◌, IfErr, IfOk, IfSome, string_bytes, subst}
-use Rattle.tera_check.specs.Ignores.{AreIgnoresIn}
-use Rattle.tera_check.specs.Mended.{IsMended, text_of}
-use Rattle.tera_check.specs.Named.{tree_of}
+use Rattle.tera_templates.specs.Ignores.{AreIgnoresIn}
+use Rattle.tera_templates.specs.Mended.{IsMended, text_of}
+use Rattle.tera_templates.specs.Templates.{tree_of}
 use Rattle.tera_grammar.specs.Limits.{usual}
 use Rattle.tera_grammar.specs.statements.Places.{Places}
 use Rattle.tera_grammar.specs.statements.Top.{Derives, DerivesNames}

@@ -1,6 +1,6 @@
 use Rattle.std.proofs.Common.{IfOk, subst}
 use Rattle.tera_settings.specs.Values.{texts_view}
-use Rattle.tera_check.specs.Registered.{AreListed, list_view, registered_view}
+use Rattle.tera_rules.specs.Registered.{AreListed, list_view, registered_view}
 use Rattle.tera_program_parts.proofs.settings.listed.Goals as goal
 
 pub returns : goal.returns

@@ -1,7 +1,7 @@
 use Rattle.std.proofs.Common.{◌≡◌, ◌++◌, List, ℕ, map, string_bytes, ◌∙◌, append_assoc}
 use Rattle.std.specs.List.{flat_map}
 use Rattle.std.proofs.lemmas.Result.{IfOk-equal}
-use Rattle.tera_check.specs.Findings.{note_view}
+use Rattle.tera_findings.specs.Findings.{note_view}
 use Rattle.tera_report.specs.FullTexts.{full_text, message, note_text}
 use Rattle.tera_report.specs.declared.role.Role.TheVariants.{Finding}
 use Rattle.terminal_text.specs.Files.{source_of}

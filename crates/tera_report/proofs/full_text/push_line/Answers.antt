@@ -1,5 +1,5 @@
 use Rattle.std.proofs.Common.{◌≡◌, ◌++◌, ◌∷◌, [], List, ℕ, encode_utf8, string_bytes, ap, ◌∙◌, arith}
-use Rattle.tera_check.specs.Findings.{place_of}
+use Rattle.tera_findings.specs.Findings.{place_of}
 use Rattle.tera_report.specs.FullTexts.{place_text, part_of, word_of}
 use Rattle.terminal_text.specs.Styled.{styled}
 use Rattle.terminal_text.specs.declared.style.Part.TheVariants as parts

@@ -1,8 +1,8 @@
 use Rattle.std.proofs.Common.{◌≡◌, ◌+◌, ◌∷◌, ◌++◌, List, ℕ, drop, map, string_bytes, sym, ap, ◌∙◌, append_assoc, append-nil}
 use Rattle.std.specs.List.{flat_map}
 use Rattle.std.proofs.Math.ListN.{drop_of_length-le}
-use Rattle.tera_check.specs.Findings.{note_view}
-use Rattle.tera_check.specs.declared.finding.Note.{Note}
+use Rattle.tera_findings.specs.Findings.{note_view}
+use Rattle.tera_findings.specs.declared.finding.Note.{Note}
 use Rattle.tera_report.specs.FullTexts.{note_text}
 use Rattle.terminal_text.specs.Files.{source_of}
 use Rattle.tera_report.proofs.Pieces.{next_is}

@@ -1,6 +1,6 @@
 use Rattle.std.proofs.Common.{◌≡◌, ◌∙◌, ◌++◌, ap, string_bytes, codes}
 use Rattle.line_text.specs.Line.{on_one_line}
-use Rattle.tera_check.specs.Findings.{kind_name}
+use Rattle.tera_findings.specs.Findings.{kind_name}
 use Rattle.tera_report.specs.Annotations.{annotation, command_of, escaped, property, span_text}
 use Rattle.tera_report.proofs.Texts.{following}
 use Rattle.tera_report.proofs.github.push_annotation.Goals as goal

@@ -1,8 +1,8 @@
 use Rattle.std.proofs.Common.{List, map, refl, sym}
 use Rattle.std.specs.List.{flat_map}
 use Rattle.json_members.proofs.Putting.{then_all, then_each, token}
-use Rattle.tera_check.specs.Findings.{note_view}
-use Rattle.tera_check.specs.declared.finding.Note.{Note}
+use Rattle.tera_findings.specs.Findings.{note_view}
+use Rattle.tera_findings.specs.declared.finding.Note.{Note}
 use Rattle.tera_report.specs.Logs.{note_object}
 use Rattle.tera_report.proofs.sarif.put_notes.Goals as goal
 

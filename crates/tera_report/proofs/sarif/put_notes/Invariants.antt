@@ -1,6 +1,6 @@
 use Rattle.std.proofs.Common.{◌≡◌, ◌++◌, drop, map}
 use Rattle.std.specs.List.{flat_map}
-use Rattle.tera_check.specs.Findings.{note_view}
+use Rattle.tera_findings.specs.Findings.{note_view}
 use Rattle.tera_report.specs.Logs.{note_object}
 use Rattle.tera_report.proofs.sarif.put_notes.Given as goal
 

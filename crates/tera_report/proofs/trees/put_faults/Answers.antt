@@ -2,9 +2,9 @@ use Rattle.std.proofs.Common.{◌≡◌, ◌∙◌, ◌+◌, ◌∷◌, ◌++◌
 use Rattle.std.specs.List.{flat_map}
 use Rattle.json.specs.Token.{Token}
 use Rattle.json_members.proofs.Putting.{then_all, then_each, token}
-use Rattle.tera_check.specs.Findings.{FindingVal, finding_view}
-use Rattle.tera_check.specs.Objects.{object_of}
-use Rattle.tera_check.specs.declared.finding.Finding.{Finding}
+use Rattle.tera_findings.specs.Findings.{FindingVal, finding_view}
+use Rattle.tera_findings.specs.Objects.{object_of}
+use Rattle.tera_findings.specs.declared.finding.Finding.{Finding}
 use Rattle.tera_report.proofs.Pieces.{next_is}
 use Rattle.tera_report.proofs.trees.put_faults.Goals as goal
 

@@ -1,7 +1,7 @@
 use Rattle.std.proofs.Common.{◌≡◌, ◌++◌, drop, map}
 use Rattle.std.specs.List.{flat_map}
-use Rattle.tera_check.specs.Findings.{finding_view}
-use Rattle.tera_check.specs.Objects.{object_of}
+use Rattle.tera_findings.specs.Findings.{finding_view}
+use Rattle.tera_findings.specs.Objects.{object_of}
 use Rattle.tera_report.proofs.trees.put_faults.Given as goal
 
 abbrev pub invariant-loop-fault : goal.invariant-loop-fault

@@ -1,6 +1,6 @@
 use Rattle.std.proofs.Common.{◌≡◌, ◌∙◌, ◌++◌, ap, string_bytes, codes}
 use Rattle.line_text.specs.Line.{on_one_line}
-use Rattle.tera_check.specs.declared.finding.Severity.TheVariants.{Error}
+use Rattle.tera_findings.specs.declared.finding.Severity.TheVariants.{Error}
 use Rattle.tera_report.specs.Annotations.{command_of, escaped, property}
 use Rattle.tera_report.proofs.Texts.{following}
 use Rattle.tera_report.proofs.unread.push_unread_annotation.Goals as goal

@@ -1,5 +1,5 @@
 use Rattle.std.proofs.Common.{◌≡◌, ◌∙◌, ◌++◌, ℕ, List, filter, filter_map, flat_map, map, option_map, string_bytes, refl, sym, ap, subst}
-use Rattle.tera_check.specs.declared.finding.Finding.{Finding}
+use Rattle.tera_findings.specs.declared.finding.Finding.{Finding}
 use Rattle.tera_fixes.specs.All.{AreSuggestedIn}
 use Rattle.tera_fixes.specs.Suggestions.{suggestion_view}
 use Rattle.tera_server.specs.Actions.{action_json, action_tokens, is_asked}

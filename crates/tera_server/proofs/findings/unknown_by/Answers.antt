@@ -1,5 +1,5 @@
 use Rattle.std.proofs.Common.{◌≡◌, map, IfOk, subst}
-use Rattle.tera_check.specs.Registered.{registered_view}
+use Rattle.tera_rules.specs.Registered.{registered_view}
 use Rattle.tera_workspace.specs.Diagnostics.{diagnostic_view}
 use Rattle.tera_workspace.specs.Unregistered.{unknown_of_name}
 use Rattle.tera_server.specs.Settings.{settings_view}

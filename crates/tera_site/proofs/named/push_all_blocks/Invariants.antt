@@ -1,7 +1,7 @@
 use Rattle.std.proofs.Common.{◌≡◌, ◌++◌, drop, map}
 use Rattle.std.specs.List.{flat_map}
 use Rattle.tera_ast.specs.View.{node_view}
-use Rattle.tera_check.specs.Findings.{finding_view}
+use Rattle.tera_findings.specs.Findings.{finding_view}
 use Rattle.tera_site.specs.Named.{block_findings}
 use Rattle.tera_site.specs.Views.{around_view}
 use Rattle.tera_site.proofs.named.push_all_blocks.Given as goal

@@ -1,4 +1,4 @@
-use Rattle.tera_check.proofs.Pending.{emptied}
+use Rattle.tera_rules.proofs.Pending.{emptied}
 use Rattle.tera_site.specs.Views.{around_view}
 use Rattle.tera_site.proofs.PlacedLemmas.{all_taken}
 use Rattle.tera_site.proofs.named.push_parts.Goals as goal

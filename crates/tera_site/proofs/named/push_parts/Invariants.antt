@@ -1,7 +1,7 @@
 use Rattle.std.proofs.Common.{◌≡◌, ◌++◌, map}
 use Rattle.std.specs.List.{flat_map}
 use Rattle.tera_tree.specs.Outputs.{output_view}
-use Rattle.tera_check.specs.Findings.{finding_view}
+use Rattle.tera_findings.specs.Findings.{finding_view}
 use Rattle.tera_site.specs.Inside.{to_come}
 use Rattle.tera_site.specs.Named.{site_part}
 use Rattle.tera_site.specs.Placed.{placed_parts_of}

@@ -2,8 +2,8 @@ use Rattle.std.proofs.Common.{◌≡◌, ◌∙◌, ◌∷◌, ◌++◌, [], ap,
 use Rattle.std.specs.List.{flat_map}
 use Rattle.std.proofs.lemmas.List.{map_push}
 use Rattle.std.specs.Option.{option_map}
-use Rattle.tera_check.proofs.Pending.{emptied}
-use Rattle.tera_check.specs.Findings.{finding_view}
+use Rattle.tera_rules.proofs.Pending.{emptied}
+use Rattle.tera_findings.specs.Findings.{finding_view}
 use Rattle.tera_tree.specs.Parts.{part_view, parts_view}
 use Rattle.tera_site.specs.Inside.{to_come}
 use Rattle.tera_site.specs.Named.{site_part}

@@ -1,4 +1,4 @@
-use Rattle.tera_check.proofs.Pending.{emptied}
+use Rattle.tera_rules.proofs.Pending.{emptied}
 use Rattle.tera_site.specs.Pages.{block_name, included}
 use Rattle.tera_site.proofs.PageLemmas.{all_taken}
 use Rattle.tera_site.proofs.pages.put_names.Goals as goal

@@ -2,7 +2,7 @@ use Rattle.std.proofs.Common.{◌≡◌, ◌++◌}
 use Rattle.std.specs.List.{flat_map}
 use Rattle.tera_tree.specs.Outputs.{output_view}
 use Rattle.tera_tree.specs.Parts.{parts_view}
-use Rattle.tera_check.specs.Within.{all_parts, parts_of}
+use Rattle.tera_rules.specs.Within.{all_parts, parts_of}
 use Rattle.tera_site.specs.Pages.{block_name, included}
 use Rattle.tera_site.specs.Views.{names_of}
 use Rattle.tera_site.proofs.pages.put_names.Given as goal

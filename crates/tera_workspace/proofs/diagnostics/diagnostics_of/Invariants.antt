@@ -1,5 +1,5 @@
 use Rattle.std.proofs.Common.{◌≡◌, map}
-use Rattle.tera_check.specs.Findings.{finding_view}
+use Rattle.tera_findings.specs.Findings.{finding_view}
 use Rattle.tera_workspace.specs.Diagnostics.{diagnostic_view, diagnostic_of}
 use Rattle.tera_workspace.specs.Kept.{sources_of}
 use Rattle.tera_workspace.proofs.diagnostics.diagnostics_of.Given as goal

@@ -1,5 +1,5 @@
 use Rattle.std.proofs.Common.{◌≡◌, map}
-use Rattle.tera_check.specs.Findings.{note_view}
+use Rattle.tera_findings.specs.Findings.{note_view}
 use Rattle.tera_workspace.specs.Diagnostics.{related_view, related_of}
 use Rattle.tera_workspace.specs.Kept.{sources_of}
 use Rattle.tera_workspace.proofs.diagnostics.related_of.Given as goal

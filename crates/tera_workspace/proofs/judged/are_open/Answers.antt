@@ -1,7 +1,7 @@
 use Rattle.std.proofs.Common.{◌∙◌, rules, sym}
 use Rattle.std.proofs.lemmas.Iterator.{YieldsList-from_slice}
 use Rattle.std.proofs.lemmas.Iterator.Search.{any_from_yields_List}
-use Rattle.tera_check.specs.Lost.{is_open}
+use Rattle.tera_templates.specs.Lost.{is_open}
 use Rattle.tera_workspace.proofs.OpenedLemmas.{any_open}
 use Rattle.tera_workspace.proofs.judged.are_open.Goals as goal
 

@@ -3,7 +3,7 @@ use Rattle.std.specs.List.{flat_map}
 use Rattle.tera_base.specs.Spanned.{node_of, span_of}
 use Rattle.tera_ast.specs.declared.ast.ComponentCall.{out-ComponentCall}
 use Rattle.tera_check.specs.Alike.{name_called}
-use Rattle.tera_check.specs.Pending.{seen}
+use Rattle.tera_rules.specs.Pending.{seen}
 use Rattle.tera_workspace.proofs.CallLemmas.{call_pushed}
 use Rattle.tera_workspace.proofs.LeftLemmas.{left_next, left_last}
 use Rattle.tera_workspace.proofs.judged.push_called.Goals as goal

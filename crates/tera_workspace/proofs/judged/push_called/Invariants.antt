@@ -1,7 +1,7 @@
 use Rattle.std.proofs.Common.{◌≡◌, ◌++◌, drop, map, string_bytes}
 use Rattle.std.specs.List.{flat_map}
 use Rattle.tera_check.specs.Alike.{name_called}
-use Rattle.tera_check.specs.Pending.{seen}
+use Rattle.tera_rules.specs.Pending.{seen}
 use Rattle.tera_workspace.proofs.judged.push_called.Given as goal
 
 abbrev pub invariant-loop-call : goal.invariant-loop-call

@@ -1,8 +1,8 @@
 use Rattle.std.proofs.Common.{◌≡◌, ◌∙◌, ◌++◌, ℕ, List, [], false, None, map, string_bytes, refl, ap, sym, subst}
 use Rattle.std.specs.List.{insert}
 use Rattle.tera_tree.specs.View.{definition_view}
-use Rattle.tera_check.specs.Lost.{are_open}
-use Rattle.tera_check.specs.Named.{definitions_of}
+use Rattle.tera_templates.specs.Lost.{are_open}
+use Rattle.tera_templates.specs.Templates.{definitions_of}
 use Rattle.tera_workspace.specs.Heads.{definition_named, HaveOneHeadIfAny}
 use Rattle.tera_workspace.specs.Kept.{StayKept, IsTextAt, marked, marked_if, templates_of}
 use Rattle.tera_workspace.specs.Names.{is_among}

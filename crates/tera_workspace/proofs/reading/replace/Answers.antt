@@ -1,5 +1,5 @@
 use Rattle.std.proofs.Common.{◌≡◌, ◌∙◌, ℕ, List, false, map, get_or, string_bytes, sym, subst}
-use Rattle.tera_check.specs.Lost.{are_open}
+use Rattle.tera_templates.specs.Lost.{are_open}
 use Rattle.tera_workspace.specs.Heads.{HaveOneHeadIn}
 use Rattle.tera_workspace.specs.Kept.{StayKept, IsTextAt, marked_if, templates_of}
 use Rattle.tera_workspace.specs.Names.{is_among}

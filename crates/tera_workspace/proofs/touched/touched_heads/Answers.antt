@@ -1,6 +1,6 @@
 use Rattle.std.proofs.Common.{◌∙◌, map, string_bytes, sym, ap, subst}
 use Rattle.tera_tree.specs.View.{definition_view}
-use Rattle.tera_check.specs.Named.{definitions_of}
+use Rattle.tera_templates.specs.Templates.{definitions_of}
 use Rattle.tera_workspace.specs.Heads.{definition_named, HaveOneHeadIfAny}
 use Rattle.tera_workspace.specs.Names.{is_among}
 use Rattle.tera_workspace.proofs.TouchedLemmas.{all_pushed}

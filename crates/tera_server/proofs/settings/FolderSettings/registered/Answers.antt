@@ -1,5 +1,5 @@
 use Rattle.std.proofs.Common.{IfOk, subst}
-use Rattle.tera_check.specs.Registered.{AreListed, list_view, registered_view}
+use Rattle.tera_rules.specs.Registered.{AreListed, list_view, registered_view}
 use Rattle.tera_server.specs.Settings.{settings_view}
 use Rattle.tera_server.proofs.settings.FolderSettings.registered.Goals as goal
 

@@ -1,6 +1,6 @@
 use Rattle.std.proofs.Common.{◌≡◌, ◌∙◌, map, get_or, IfOk, sym, ap, subst}
 use Rattle.std.proofs.lemmas.List.{get_or_read}
-use Rattle.tera_check.specs.Registered.{registered_view}
+use Rattle.tera_rules.specs.Registered.{registered_view}
 use Rattle.tera_workspace.specs.Diagnostics.{diagnostic_view}
 use Rattle.tera_workspace.specs.Kept.{sources_of}
 use Rattle.tera_workspace.specs.Unregistered.{unknown_in}

@@ -1,5 +1,0 @@
-use Rattle.tera_check.proofs.DueLemmas.{boundary_is}
-use Rattle.tera_check.proofs.due.is_boundary.Goals as goal
-
-pub returns : goal.returns
-returns c = boundary_is c.args.text.now c.args.at c.is_char_boundary.result c.is_char_boundary.ensures.test

@@ -1,5 +1,0 @@
-use Rattle.tera_check.proofs.WordLemmas.{Begun}
-use Rattle.tera_check.proofs.lost.words_of.Given as goal
-
-abbrev pub invariant-loop-at : goal.invariant-loop-at
-invariant-loop-at l = Begun l.text l.words.items l.start l.at

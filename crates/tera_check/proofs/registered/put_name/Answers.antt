@@ -1,5 +1,0 @@
-use Rattle.tera_check.proofs.RegisteredLemmas.{put_now}
-use Rattle.tera_check.proofs.registered.put_name.Goals as goal
-
-pub returns : goal.returns
-returns c = put_now c.args.name c.args.names.now c.insert.new.self c.in_ok-insert.ensures.updates

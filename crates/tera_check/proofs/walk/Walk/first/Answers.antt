@@ -1,7 +1,0 @@
-use Rattle.std.proofs.Common.{refl}
-use Rattle.tera_lexer.specs.grammar.Place.{place_after}
-use Rattle.tera_check.proofs.walk.Walk.first.Goals as goal
-
-pub returns : goal.returns
-unfolding place_after
-returns c = refl

@@ -1,0 +1,11 @@
+pub mod Bodies
+pub mod Calls
+pub mod Judged
+pub mod Passed
+pub mod Pending
+pub mod Registered
+pub mod Repeated
+pub mod RepeatedConditions
+pub mod RepeatedKeys
+pub mod Rules
+pub mod Within

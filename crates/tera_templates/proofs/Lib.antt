@@ -1,0 +1,10 @@
+pub mod BoundaryLemmas
+pub mod FaultFindingsLemmas
+pub mod FaultLemmas
+pub mod HintsLemmas
+pub mod IgnoreLemmas
+pub mod PlaceLemmas
+pub mod ReadLemmas
+pub mod SpansLemmas
+pub mod WalkLemmas
+pub mod WordLemmas
