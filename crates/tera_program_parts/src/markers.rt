@@ -37,10 +37,7 @@ pub fn steady_markers_of(alloc: Global, words: Option<&str>) -> Result<Delimiter
 }
 
 /// The six markers in these words, if they are not the default ones.
-pub fn other_markers_of(
-    alloc: Global,
-    words: Option<&str>,
-) -> Result<Option<Delimiters>, Unfit>
+pub fn other_markers_of(alloc: Global, words: Option<&str>) -> Result<Option<Delimiters>, Unfit>
     ensures { IfOk result (λ markers. IfSome markers (λ d. IsValid (marks_of d))) }
 {
     let markers = markers_of(alloc, words)?;

@@ -47,11 +47,7 @@ fn push_name(to: &mut String, is_terminal: bool, name: &str) -> Result<(), Alloc
 }
 
 /// A text of several lines: as it is for another program, and without what a terminal would obey on a terminal.
-pub fn lines_for(
-    alloc: Global,
-    is_terminal: bool,
-    text: String,
-) -> Result<String, AllocError>
+pub fn lines_for(alloc: Global, is_terminal: bool, text: String) -> Result<String, AllocError>
     ensures { IfOk result (λ t. string_bytes t ≡ lines_for is_terminal (string_bytes text)) }
 {
     if !is_terminal {

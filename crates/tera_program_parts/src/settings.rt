@@ -138,10 +138,7 @@ fn words_of<'s>(
 }
 
 /// The texts of the strings.
-pub fn references<'s>(
-    alloc: Global,
-    strings: &'s Vec<String>,
-) -> Result<Vec<&'s str>, AllocError>
+pub fn references<'s>(alloc: Global, strings: &'s Vec<String>) -> Result<Vec<&'s str>, AllocError>
     ensures { IfOk result (λ words. texts words.items ≡ map string_bytes strings.now.items) }
 {
     let mut words = Vec::new(alloc);
