@@ -2,6 +2,7 @@ mod CallSteps
 mod EditSteps
 mod Finding
 mod HeadCuts
+mod HeadSteps
 mod NameParts
 mod NamePlaces
 mod Nesting

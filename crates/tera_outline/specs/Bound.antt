@@ -17,11 +17,6 @@ binds places.Set = true
 binds places.Parameter = true
 binds place = false
 
--- .. of a parameter
-abbrev pub is_parameter : Place → Bool
-is_parameter places.Parameter = true
-is_parameter place = false
-
 abbrev pub bound_by : Place → Tok → Option (List ℕ)
 bound_by place (Ident name) = if binds place then Some name else None
 bound_by place t = None

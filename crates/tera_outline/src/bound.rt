@@ -54,7 +54,7 @@ fn bound_by<'a>(place: Place, token: &Token<'a>) -> Option<&'a str>
 
 // Where a token is.
 #[derive(Clone, Copy)]
-pub(crate) enum Place {
+enum Place {
     // After the start of a tag.
     Tag,
     // After `for`, and after the comma between its two names.
@@ -79,14 +79,8 @@ impl Place {
         matches!(self, Place::For | Place::Set | Place::Parameter)
     }
 
-    pub(crate) fn is_parameter(self) -> bool
-        ensures { result ≡ specs.is_parameter self }
-    {
-        matches!(self, Place::Parameter)
-    }
-
     // Where the next token is after this one.
-    pub(crate) fn after(self, token: &Token<'_>) -> Place
+    fn after(self, token: &Token<'_>) -> Place
         ensures { result ≡ specs.place_after self (seen token.now) }
     {
         match token {

@@ -1,13 +1,13 @@
 //! The heads of definitions, with their parameters.
 
-ghost use Rattle.std.specs.Prelude.{◌≡◌, ◌++◌, List, map, option_map, IfOk, OnOk};
+ghost use Rattle.std.specs.Prelude.{◌≡◌, ◌<◌, ◌++◌, List, map, option_map, IfOk, OnOk};
 ghost use Rattle.std.specs.Option.{option_to_list};
+ghost use Rattle.tera_lexer.specs.code.Seen.{seen};
 ghost use Rattle.tera_outline.specs.Pieces.{Part, part_of, ArePartsOf};
 ghost use Rattle.tera_outline.specs.Signatures as specs;
 ghost use Rattle.tera_outline.specs.Signatures.{parameter_view, signature_view};
 ghost use Rattle.tera_outline.specs.Symbols.{outlined};
 
-use crate::bound::Place;
 use crate::heads::{definition_in, head_end, head_in};
 use crate::pieces::{Piece, pieces_of};
 use crate::symbols::{Symbol, symbols_in};
@@ -71,7 +71,7 @@ fn parameters_of<'t>(
     parameters_between(alloc, pieces, symbol.name_start, end)
 }
 
-// The parameters between the bytes, by the bytes after the first of these.
+// The parameters in the head between the bytes, by the bytes after the first of these.
 fn parameters_between<'t>(
     alloc: Global,
     pieces: &[Piece<'t>],
@@ -82,25 +82,32 @@ fn parameters_between<'t>(
         ≡ specs.parameters_between from to (map part_of pieces.now)) }
 {
     let mut parameters = Vec::new(alloc);
-    let mut place = Place::Other;
+    let mut place = Place::Name;
     for piece in pieces {
-        push_if_parameter(&mut parameters, place, from, to, piece)?;
-        place = place.after(&piece.token);
+        if is_between(from, to, piece) {
+            push_if_parameter(&mut parameters, place, from, piece)?;
+            place = place.after(&piece.token);
+        }
     }
     Ok(parameters)
+}
+
+fn is_between(from: usize, to: usize, piece: &Piece<'_>) -> bool
+    ensures { result ≡ specs.is_between from to (part_of piece.now) }
+{
+    from <= piece.start && piece.end <= to
 }
 
 fn push_if_parameter<'t>(
     parameters: &mut Vec<Parameter<'t>>,
     place: Place,
     from: usize,
-    to: usize,
     piece: &Piece<'t>,
 ) -> Result<(), AllocError>
     ensures { OnOk result (map parameter_view parameters.new.items ≡ map parameter_view parameters.old.items
-        ++ option_to_list (specs.parameter_at from to place (part_of piece.now))) }
+        ++ option_to_list (specs.parameter_at from (specs.is_due place) (part_of piece.now))) }
 {
-    match parameter_at(place, from, to, piece) {
+    match parameter_at(place, from, piece) {
         Some(parameter) => {
             parameters.push(parameter)?;
             Ok(())
@@ -109,17 +116,13 @@ fn push_if_parameter<'t>(
     }
 }
 
-// The parameter whose name the piece is at the place, if it is between the bytes.
-fn parameter_at<'t>(
-    place: Place,
-    from: usize,
-    to: usize,
-    piece: &Piece<'t>,
-) -> Option<Parameter<'t>>
-    ensures { option_map parameter_view result ≡ specs.parameter_at from to place (part_of piece.now) }
+// The parameter whose name the piece is at the place.
+fn parameter_at<'t>(place: Place, from: usize, piece: &Piece<'t>) -> Option<Parameter<'t>>
+    ensures { option_map parameter_view result
+        ≡ specs.parameter_at from (specs.is_due place) (part_of piece.now) }
 {
     match &piece.token {
-        Token::Ident(name) if takes(place, from, to, piece) => Some(Parameter {
+        Token::Ident(name) if place.is_due() => Some(Parameter {
             name: *name,
             start: piece.start.saturating_sub(from),
             end: piece.end.saturating_sub(from),
@@ -128,9 +131,103 @@ fn parameter_at<'t>(
     }
 }
 
-// Whether the piece is where a parameter comes, and between the bytes.
-fn takes(place: Place, from: usize, to: usize, piece: &Piece<'_>) -> bool
-    ensures { result ≡ specs.takes place from to piece.now.start piece.now.end }
+// Where in a head a token is.
+#[derive(Clone, Copy)]
+enum Place {
+    // Before the parenthesis that opens the list of parameters.
+    Name,
+    // In the list, with so many inner brackets open. The name of a parameter is due until it has come.
+    Parameters { depth: usize, due: bool },
+    // After the list.
+    Rest,
+}
+
+impl Place {
+    // Whether a name is that of a parameter.
+    fn is_due(self) -> bool
+        ensures { result ≡ specs.is_due self }
+    {
+        match self {
+            Place::Parameters { depth, due } => depth == 0 && due,
+            _ => false,
+        }
+    }
+
+    // Where the next token is after this one.
+    fn after(self, token: &Token<'_>) -> Place
+        requires { specs.depth_of self < usize.MAX }
+        ensures { result ≡ specs.place_after self (seen token.now) }
+    {
+        match self {
+            Place::Name => after_name(token),
+            Place::Parameters { depth, due } => after_listed(depth, due, token),
+            Place::Rest => Place::Rest,
+        }
+    }
+}
+
+// After a token that is before the list, or opens it.
+fn after_name(token: &Token<'_>) -> Place
+    ensures { result ≡ specs.after_name (seen token.now) }
 {
-    place.is_parameter() && from <= piece.start && piece.end <= to
+    match token {
+        Token::LeftParen => Place::Parameters {
+            depth: 0,
+            due: true,
+        },
+        _ => Place::Name,
+    }
+}
+
+// After a token in the list, or the bracket that closes it.
+fn after_listed(depth: usize, due: bool, token: &Token<'_>) -> Place
+    requires { depth < usize.MAX }
+    ensures { result ≡ specs.after_listed depth due (seen token.now) }
+{
+    match token {
+        Token::LeftBrace | Token::LeftParen | Token::LeftBracket => Place::Parameters {
+            depth: depth + 1,
+            due,
+        },
+        Token::RightBrace | Token::RightParen | Token::RightBracket => after_closing(depth, due),
+        _ => Place::Parameters {
+            depth,
+            due: due_in(depth, due, token),
+        },
+    }
+}
+
+// After a bracket that closes one within the list, or the list.
+fn after_closing(depth: usize, due: bool) -> Place
+    ensures { result ≡ specs.after_closing depth due }
+{
+    if depth == 0 {
+        Place::Rest
+    } else {
+        Place::Parameters {
+            depth: depth - 1,
+            due,
+        }
+    }
+}
+
+// Whether the name of a parameter is due after a token in the list that is no bracket.
+fn due_in(depth: usize, due: bool, token: &Token<'_>) -> bool
+    ensures { result ≡ specs.due_in depth due (seen token.now) }
+{
+    if depth == 0 {
+        due_after(due, token)
+    } else {
+        due
+    }
+}
+
+fn due_after(due: bool, token: &Token<'_>) -> bool
+    ensures { result ≡ specs.due_after due (seen token.now) }
+{
+    match token {
+        Token::Ident(_) => false,
+        Token::Comma => true,
+        _ => due,
+    }
 }
