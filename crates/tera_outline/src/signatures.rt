@@ -211,7 +211,7 @@ fn after_closing(depth: usize, due: bool) -> Place
     }
 }
 
-// Whether the name of a parameter is due after a token in the list that is no bracket.
+// Whether the name of a parameter is due after a token in the list that is not a bracket.
 fn due_in(depth: usize, due: bool, token: &Token<'_>) -> bool
     ensures { result ≡ specs.due_in depth due (seen token.now) }
 {
