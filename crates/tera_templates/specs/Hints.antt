@@ -36,7 +36,7 @@ is_of_macros = is_one_of (codes "macro" ∷ codes "endmacro" ∷ codes "import" 
 
 abbrev pub macro_hint : List ℕ
 macro_hint =
-    codes "Tera 2 has components in place of macros: `{% component name(argument) %}`, called by `{{ <name argument=1 /> }}`"
+    codes "Tera 2 has components in place of macros: `{% component name(argument) %}`, called by `{{ <name argument={1} /> }}`"
 
 abbrev pub tags_hint : List ℕ
 tags_hint =

@@ -36,7 +36,7 @@ fn hint_for_tag(word: &[u8]) -> Option<&'static str>
     }
     if is_of_macros(word) {
         return Some(
-            "Tera 2 has components in place of macros: `{% component name(argument) %}`, called by `{{ <name argument=1 /> }}`",
+            "Tera 2 has components in place of macros: `{% component name(argument) %}`, called by `{{ <name argument={1} /> }}`",
         );
     }
     Some(
