@@ -15,10 +15,8 @@ use Rattle.tera_findings.specs.Findings.{FindingVal}
 use Rattle.tera_rules.specs.Judged.{KnownVal, RemarkVal, taken_by, about, remarked, refused_for, unless_rest, unknown, refusal, counted, refused, refused_one, is_again, refused_findings, missed, missing_findings, missing_in, judged, unused_body, unused_bodies, call_findings, again, defined_again, again_findings}
 use Rattle.tera_check.specs.Named.{span_at, taken_in, tree_findings}
 use Rattle.tera_check.specs.Parameters.{parameter_at}
-use Rattle.tera_rules.specs.Repeated.{repeated_findings}
 use Rattle.tera_rules.specs.Rules.{small_findings}
 use Rattle.tera_rules.specs.Passed.{NamedVal, PassedVal, OneNamed, Whatever, has_whatever, is_passed, passed_by}
-use Rattle.tera_rules.specs.declared.repeated.Holder.TheVariants as holders
 use Rattle.tera_templates.specs.declared.templates.Template.{Template}
 use Rattle.tera_check.proofs.TakenLemmas.{all_append, agree_both, unused_alike, taken_by_arguments}
 
@@ -95,11 +93,15 @@ module _ (number other : ℕ) where
   defined_alike (Some k) None h span = absurd h
   defined_alike (Some k) (Some j) h span = defined_some number other k j h span
 
+-- after the same findings
+after_same : (before more others : List FindingVal) → more ≡ others → before ++ more ≡ before ++ others
+after_same before more others same = ap (λ fs. before ++ fs) same
+
 module _ (number other : ℕ) (known others : List ℕ → Option KnownVal) where
   call_alike : (file : List ℕ) (e : Expr) → AgreeOn (name_called e) number other known others → call_findings file known e ≡ call_findings file others e
   call_alike file (ComponentCall name es body closed span) h =
-      λ i. repeated_findings holders.Call file es
-      ++ (judged_alike number other (known name) (others name) h.0 name span (passed_by es) i ++ unused_body_alike number other (known name) (others name) h.0 span body i)
+      after_same _ _ _
+      (λ i. judged_alike number other (known name) (others name) h.0 name span (passed_by es) i ++ unused_body_alike number other (known name) (others name) h.0 span body i)
   call_alike file (Const v span) h = refl
   call_alike file (Array es span) h = refl
   call_alike file (Map es span) h = refl
