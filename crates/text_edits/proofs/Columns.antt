@@ -16,14 +16,14 @@ column e text character = byte_in e (lines_of text) 0 character
 column_none : (e : Encoding) (c : ℕ) → column e [] c ≡ 0
 column_none e c = rw no_lines refl
 
-column_end : (e : Encoding) (b : ℕ) (bs : List ℕ) (c : ℕ) → (b ≡ 10) ⊎ (b ≡ 13) → column e (b ∷ bs) c ≡ 0
+pub column_end : (e : Encoding) (b : ℕ) (bs : List ℕ) (c : ℕ) → (b ≡ 10) ⊎ (b ≡ 13) → column e (b ∷ bs) c ≡ 0
 column_end e b bs c ends = elim (first_of_text b bs) [
   | ended _ _ is ↦ rw is refl
   | both _ _ ls _ is ↦ rw is refl
   | inside no_feed no_return _ _ _ _ _ ↦ elim ends [ inl h ↦ absurd (no_feed h) | inr h ↦ absurd (no_return h) ]
 ]
 
-column_on : (e : Encoding) (b : ℕ) (bs : List ℕ) (c : ℕ) → Plain b → column e (b ∷ bs) c ≡ cond (nat_le (units e b) c) (1 + column e bs (c - units e b)) 0
+pub column_on : (e : Encoding) (b : ℕ) (bs : List ℕ) (c : ℕ) → Plain b → column e (b ∷ bs) c ≡ cond (nat_le (units e b) c) (1 + column e bs (c - units e b)) 0
 column_on e b bs c plain = elim (first_of_text b bs) [
   | ended ends _ _ ↦ elim ends [ inl h ↦ absurd (plain.0 h) | inr h ↦ absurd (plain.1 h.0) ]
   | both h _ _ _ _ ↦ absurd (plain.1 h)

@@ -2,6 +2,7 @@ pub mod Boundaries
 pub mod Columns
 pub mod Division
 pub mod Inverse
+pub mod Kept
 pub mod Order
 pub mod Starts
 pub mod Steps

@@ -4,5 +4,6 @@ pub mod Laws
 pub mod Lines
 pub mod Places
 pub mod Positions
+pub mod Runs
 pub mod Stored
 pub mod Walks

@@ -1,10 +1,10 @@
 //! Changes of a text.
 
-ghost use Rattle.std.specs.Prelude.{◌≡◌, map, string_bytes, IfOk, OnOk};
-ghost use Rattle.text_edits.specs.Edits.{after, change_view, edited as edited_text};
+ghost use Rattle.std.specs.Prelude.{◌≡◌, ◌≤◌, ◌∷◌, length, drop, map, string_bytes, IfOk};
+ghost use Rattle.text_edits.specs.Edits.{change_view, edited as edited_text};
 
-use crate::lines::Lines;
-use crate::positions::{Encoding, Position, byte_at};
+use crate::positions::{Encoding, Position};
+use crate::runs::Run;
 use std::alloc::{AllocError, Global};
 
 /// A change of a text.
@@ -16,8 +16,9 @@ pub enum Change<'a> {
     Part(Position, Position, &'a str),
 }
 
-/// The text after these changes, each of which speaks of the text that those before it left. A change takes the time of
-/// the text.
+/// The text after these changes, each of which speaks of the text that those before it left. Parts take the time of the
+/// text together, if each ends before the one made last begins. Any other change takes the time of the text by itself.
+/// Each part also takes the time of its lines.
 pub fn edited(
     alloc: Global,
     text: &str,
@@ -28,33 +29,49 @@ pub fn edited(
         string_bytes t ≡ edited_text encoding text.now (map change_view changes.now)) }
 {
     let mut now = String::from_str(alloc, text)?;
-    for change in changes {
-        make(alloc, &mut now, encoding, *change)?;
+    let mut made = 0;
+    'changes: while made < changes.len() {
+        let (next, more) = after_some(
+            alloc,
+            now.as_str(),
+            encoding,
+            changes[made],
+            &changes[made + 1..],
+        )?;
+        now = next;
+        made += 1 + more;
     }
     now.shrink_to_fit();
     Ok(now)
 }
 
-// Makes the change.
-fn make(
+// The text after the change and some of those that follow it, and how many these are: after a part those of which each
+// is before the one made last.
+fn after_some<'n>(
     alloc: Global,
-    text: &mut String,
+    text: &str,
     encoding: Encoding,
-    change: Change<'_>,
-) -> Result<(), AllocError>
-    ensures { OnOk result (string_bytes text.new
-        ≡ after encoding (string_bytes text.old) (change_view change.entry)) }
+    change: Change<'n>,
+    following: &[Change<'n>],
+) -> Result<(String, usize), AllocError>
+    ensures some { IfOk result (λ r. r.1 ≤ length following.now) }
+    ensures edited { IfOk result (λ r.
+        edited_text encoding (string_bytes r.0) (map change_view (drop r.1 following.now))
+        ≡ edited_text encoding text.now
+        (change_view change.entry ∷ map change_view following.now)) }
 {
     match change {
-        Change::Whole(new) => {
-            text.clear();
-            text.push_str(new)
-        }
+        Change::Whole(new) => Ok((String::from_str(alloc, new)?, 0)),
         Change::Part(start, end, new) => {
-            let lines = Lines::of(alloc, text.as_str())?;
-            let from = byte_at(text.as_str(), &lines, encoding, start);
-            let to = byte_at(text.as_str(), &lines, encoding, end).max(from);
-            text.replace_range(from..to, new)
+            let mut run = Run::begin(alloc, text, encoding, start, end, new)?;
+            let mut made = 0;
+            'others: for other in following {
+                if !run.goes_on(*other)? {
+                    break;
+                }
+                made += 1;
+            }
+            Ok((run.into_text(alloc)?, made))
         }
     }
 }

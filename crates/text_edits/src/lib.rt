@@ -7,7 +7,8 @@
 //! (`text_of`). It knows nothing of what the texts are, and depends on the standard library alone.
 //!
 //! In the order of reading: specs `Lines`, `Positions` and `Edits`; `lines`, where they begin, and spec `Places`;
-//! `positions`; `walk`, from one byte to a later one; `edits`; `laws`; specs `Documents` and `Stored`; `documents`.
+//! `positions`; `walk`, from one byte to a later one; spec `Runs`; `runs`, changes from the end of a text to its start;
+//! `edits`; `laws`; specs `Documents` and `Stored`; `documents`.
 #![tactic(auto)]
 
 mod documents;
@@ -15,6 +16,7 @@ mod edits;
 pub mod laws;
 mod lines;
 mod positions;
+mod runs;
 mod walk;
 
 pub use documents::Documents;
