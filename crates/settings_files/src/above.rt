@@ -23,6 +23,9 @@ const MOST: usize = 4096;
 /// The settings of the nearest file `tera.toml`: in the folder of this path, or beside it, or in a folder above. There
 /// may be none. If nothing is at the path, the search begins in the nearest folder above it. The path of the file is from
 /// the folder in which the program runs, if it is in or below that.
+///
+/// It is an error if the nearest one cannot be read, is a pipe or a device, or is a link that leads nowhere. A folder that
+/// may not be searched counts as one without a file.
 pub fn settings_above<R: Files + Input + AllocGlobal>(
     rt: &R,
     rules: &[&str],
@@ -118,7 +121,7 @@ fn folder_above(alloc: Global, folder: &str) -> Result<String, AllocError>
     }
 }
 
-// The file of settings in a folder, if there is one. A path that is not a folder has none.
+// The file of settings in a folder, if one is known to be there. A path that is not a folder has none.
 fn source_in<R: Files + Input + AllocGlobal>(
     rt: &R,
     folder: Path<'_>,
@@ -126,11 +129,34 @@ fn source_in<R: Files + Input + AllocGlobal>(
     ensures named { IfOk result (λ found. IfSome found (λ source. IsInFolder (string_bytes source.file))) }
 {
     let file = folder.join(rt.alloc(), NAME)?.into_string();
-    match read_source(rt, file.as_str(), file.as_str()) {
+    match read_file(rt, file.as_str()) {
         Ok(source) => Ok(Some(source)),
         Err(Unread::Memory) => Err(Unfit::Memory),
-        Err(Unread::Failed(error)) if is_absent(error) => Ok(None),
+        Err(Unread::Failed(error)) if is_missing(rt, file.as_str(), error) => Ok(None),
         Err(why) => Err(Unfit::Unread(file, why)),
+    }
+}
+
+// Reads a file. What is there is looked at first, since opening a pipe or a device may wait without end. A folder is
+// opened, and fails when it is read. If a pipe takes the place of a file that was looked at, the pipe is opened.
+fn read_file<R: Files + Input + AllocGlobal>(rt: &R, file: &str) -> Result<Source, Unread>
+    ensures named { IfOk result (λ source. string_bytes source.file ≡ file.now) }
+{
+    let data = fs::metadata(rt, file)?;
+    if data.is_file() || data.is_dir() {
+        read_source(rt, file, file)
+    } else {
+        let error = io::Error::new(ErrorKind::InvalidInput, "it is not a regular file");
+        Err(Unread::Failed(error))
+    }
+}
+
+// Whether no file is known to be at a path, if reading it failed so. A link that leads nowhere is a file there. In a
+// folder that may not be searched none is known. A file that was made after the reading failed counts as absent.
+fn is_missing(rt: &impl Files, path: &str, error: io::Error) -> bool {
+    match fs::symlink_metadata(rt, path) {
+        Ok(data) => is_absent(error) && !data.is_symlink(),
+        Err(_) => is_absent(error) || error.kind() == ErrorKind::PermissionDenied,
     }
 }
 
