@@ -58,7 +58,7 @@ is_unused open_text found i = is_judged open_text i.rule && not (list_any (silen
 
 -- the finding, at the comment
 abbrev pub no_finding_text : List ℕ → List ℕ
-no_finding_text rule = codes "No finding of the rule `" ++ (rule ++ codes "` is silenced here")
+no_finding_text rule = codes "This comment silences no finding of the rule `" ++ (rule ++ codes "`")
 
 abbrev pub no_rule_text : List ℕ → List ℕ
 no_rule_text rule = codes "No rule is named `" ++ (rule ++ codes "`")

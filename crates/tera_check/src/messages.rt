@@ -29,7 +29,7 @@ pub(crate) fn unused_component(alloc: Global, name: &str) -> Result<String, Allo
 pub(crate) fn unused_ignore(alloc: Global, rule: &str) -> Result<String, AllocError>
     ensures { IfOk result (λ m. string_bytes m ≡ no_finding_text rule.now) }
 {
-    format!(in alloc; "No finding of the rule `{rule}` is silenced here")
+    format!(in alloc; "This comment silences no finding of the rule `{rule}`")
 }
 
 /// That the ignore names something that is not a rule.

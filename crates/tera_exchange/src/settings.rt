@@ -69,7 +69,7 @@ fn why_unread_between(alloc: Global, file: &Configured) -> Result<Option<Reason>
     }
     let message = String::from_str(
         alloc,
-        "`markers`: templates between other markers are not checked in the editor",
+        "`markers`: templates with other markers are not checked in the editor",
     )?;
     match file.wrong(alloc, None, "markers", message) {
         Unfit::Wrong(wrong) => Ok(Some(reason_of(wrong, Severity::Warning))),

@@ -38,12 +38,12 @@ listed_line c =
     ++ (with_count c.faulty (codes "with a fault") ++ with_count c.unread (codes "could not be read"))))
 
 abbrev pub done_text : Mode → List ℕ
-done_text Write = codes " laid out"
+done_text Write = codes " formatted"
 done_text Check = codes " would change"
 done_text Diff = codes " would change"
 
 abbrev pub left_text : Mode → List ℕ
-left_text Write = codes "left as they were"
+left_text Write = codes "unchanged"
 left_text Check = codes "would not"
 left_text Diff = codes "would not"
 

@@ -48,7 +48,7 @@ pub fn run<R: Files + Env + Input + Print + Eprint + AllocGlobal + Clone + Drop>
         return Ended::failed();
     }
     let Some(faults) = number_from_1(job.max_faults) else {
-        print_error(rt, "tera", "--max-faults: a number from 1 on is wanted");
+        print_error(rt, "tera", "--max-faults: expected a number from 1 on");
         return Ended::failed();
     };
     let markers = match other_markers_of(rt.alloc(), job.markers) {

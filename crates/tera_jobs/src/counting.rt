@@ -124,7 +124,7 @@ pub(crate) struct LaidOut {
     pub(crate) failed: usize,
 }
 
-/// `3 files laid out, 7 left as they were, 2 with a fault, 1 failed`.
+/// `3 files formatted, 7 unchanged, 2 with a fault, 1 failed`.
 pub(crate) fn laid_out_line(
     alloc: Global,
     mode: Mode,
@@ -144,7 +144,7 @@ fn done(mode: Mode) -> &'static str
     ensures { result.now ≡ done_text mode }
 {
     match mode {
-        Mode::Write => " laid out",
+        Mode::Write => " formatted",
         Mode::Check | Mode::Diff => " would change",
     }
 }
@@ -153,7 +153,7 @@ fn left(mode: Mode) -> &'static str
     ensures { result.now ≡ left_text mode }
 {
     match mode {
-        Mode::Write => "left as they were",
+        Mode::Write => "unchanged",
         Mode::Check | Mode::Diff => "would not",
     }
 }

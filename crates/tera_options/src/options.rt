@@ -17,7 +17,7 @@ static COLOURS: [&str; 3] = ["auto", "always", "never"];
 const OF_ALL: &str = "\
 Examples:
   tera check templates                   check the templates of a folder
-  tera format --diff templates           show what their layout would change
+  tera format --diff templates           show what formatting would change
   tera components templates > ui.json    list the components that they define
 
 Exit status:
@@ -31,20 +31,20 @@ const OF_CHECK: &str = "\
 A folder means the templates below it: the files whose names end in .html, .htm, .xml or .tera, except hidden files and
 those in `node_modules`. A file that is given twice is checked once.
 
-All syntax errors of a file are reported, and what else is found in the rest of it. Nothing is reported that may come of
-a syntax error: no component is undefined while the tag of a definition has one. Between other markers (--markers) only
-the first syntax error of a file is reported, and nothing else is found in it.
+All syntax errors of a file are reported, and the findings in the rest of it. Findings that a syntax error may have
+caused are not reported: while the tag of a definition has an error, no component counts as undefined. With other
+markers (--markers) only the first syntax error of a file is reported, and nothing else is found in it.
 
-With --fix the files are changed where a finding has one safe correction, and what is left is reported. A file is left as
-it is if its new text would have a syntax error, or a finding that it did not have before.
+With --fix the files are changed where a finding has one safe correction, and the remaining findings are reported. A
+file stays unchanged if its new text would have a syntax error, or a finding that it did not have before.
 
 With --root the names that templates extend and include are checked too: a name is a path below the root.
 
 This parser does not read floating-point numbers. Tera does: a tag that has one gets the error `Float literals are not
 supported`, and is not checked.
 
-Settings are read from the nearest `tera.toml`, beside the first FILE or in a folder above it. An option counts before
-what that file says.
+Settings are read from the nearest `tera.toml`, next to the first FILE or in a folder above it. Options override that
+file.
 
 Examples:
   tera check templates
@@ -56,8 +56,8 @@ Examples:
 Exit status: 0 if no error was found (there may be warnings), 1 if an error was found, 2 if a file could not be read.";
 
 const OF_FORMAT: &str = "\
-A file is rewritten in its layout, and its name is printed if that changed it. A file with a syntax error is left as it
-is. The layout of standard input is written to standard output.
+Files are formatted in place, and the names of the files that changed are printed. A file with a syntax error stays
+unchanged. Standard input is formatted to standard output.
 
 Examples:
   tera format templates
@@ -65,7 +65,7 @@ Examples:
   tera format --diff templates | less -R
   tera format --markers '[% %] [[ ]] [# #]' page.html
 
-Exit status: 0 if every file is laid out, 1 if a template has a syntax error or a file would change under --check or
+Exit status: 0 if every file is formatted, 1 if a template has a syntax error or a file would change under --check or
 --diff, 2 if a file could not be read or written.";
 
 const OF_COMPONENTS: &str = "\
@@ -76,8 +76,8 @@ Examples:
 Exit status: 0 if every template was read, 1 if one has a syntax error, 2 if a file could not be read.";
 
 const OF_TREE: &str = "\
-With --faulty the tree of a template with syntax errors is shown too: the tree of its text with something else in the
-place of each error. Up to 100 errors are reported. With --json they are in the output: an object with `tree`, `faults`
+With --faulty the tree of a template with syntax errors is shown too: of its text in which a replacement stands for each
+part with an error. Up to 100 errors are reported. With --json they are in the output: an object with `tree`, `faults`
 and `more`, which says whether there are more errors.
 
 Examples:
@@ -94,17 +94,17 @@ Examples:
 Exit status: 0 if the rule was explained, 2 if there is none of this name.";
 
 const OF_SERVER: &str = "\
-An editor starts it and ends it. It reports what is wrong in templates while they are edited, over all files below the
-open folders, and formats them.
+An editor starts it and ends it. It reports findings while templates are edited, over all files below the open folders,
+and formats templates.
 
-Exit status: 0 if the editor ended it in order, 1 if it did not, 2 if standard input or output failed.";
+Exit status: 0 if the editor shut it down in order, 1 if it did not, 2 if standard input or output failed.";
 
 /// The program, with its subcommands.
 pub fn command<'a>(alloc: Global) -> Result<Command<'a>, AllocError> {
     Command::new(alloc, "tera")
         .bin_name("tera")?
         .version(VERSION)
-        .about("Checks, lays out and lists templates of Tera 2")
+        .about("Checks and formats templates of Tera 2, and lists their components")
         .after_help(OF_ALL)
         .subcommand_required(true)
         .arg_required_else_help(true)
@@ -132,7 +132,7 @@ fn check<'a>(alloc: Global) -> Result<Command<'a>, AllocError> {
             alloc,
             "max-faults",
             "NUMBER",
-            "How many syntax errors of a file are reported at the most, from 1 on",
+            "Report at most this many syntax errors of a file, from 1 on",
         )
         .default_value(MAX_FAULTS))?
         .arg(rules(
@@ -150,7 +150,7 @@ fn check<'a>(alloc: Global) -> Result<Command<'a>, AllocError> {
         .arg(flag(
             alloc,
             "error-on-warnings",
-            "End with status 1 if there are only warnings, too",
+            "End with status 1 also if there are only warnings",
         ))?
         .arg(flag(
             alloc,
@@ -168,7 +168,7 @@ fn check<'a>(alloc: Global) -> Result<Command<'a>, AllocError> {
             alloc,
             "root",
             "FOLDER",
-            "Folder below which the templates of a site are, so that what they extend and include is checked",
+            "Root folder of the templates of a site; what they extend and include is checked",
         ))?;
     with_files(alloc, command)
 }
@@ -239,20 +239,18 @@ fn explain<'a>(alloc: Global) -> Result<Command<'a>, AllocError> {
                 .value_name("RULE")
                 .required(true)
                 .value_parser(&*RULES.as_slice())
-                .help("The word in brackets of a finding"),
+                .help("Name of the rule, as in the brackets of a finding"),
         )
 }
 
 fn server<'a>(alloc: Global) -> Result<Command<'a>, AllocError> {
     Command::new(alloc, "server")
-        .about(
-            "Talks with an editor in the Language Server Protocol, over standard input and output",
-        )
+        .about("Speaks the Language Server Protocol with an editor, over standard input and output")
         .after_help(OF_SERVER)
         .arg(flag(
             alloc,
             "stdio",
-            "Accepted, and changes nothing: it talks over standard input and output anyway",
+            "Accepted for compatibility: standard input and output are always used",
         ))
 }
 
@@ -363,7 +361,7 @@ fn extension<'a>(alloc: Global) -> Arg<'a> {
         alloc,
         "extension",
         "NAME",
-        "File extensions of templates in folders, instead of html, htm, xml and tera",
+        "File extensions of templates in folders, in place of html, htm, xml and tera",
     )
 }
 

@@ -155,13 +155,14 @@ Remove the value that is not meant:
 "##;
 
 const UNUSED_BODY: &str = r##"
-A call gives a body to a component that never shows it: its definition has none of the variables `body` and
-`__tera_context`, and no `include`. So what is between the tags of the call is not shown. If that is white space alone, nothing is reported.
+A call gives a body to a component that never renders it: its definition has none of the variables `body` and
+`__tera_context`, and no `include`. So what is between the tags of the call is not shown. Nothing is reported if that is
+only white space.
 
     {% component box(title: string) %}{{ title }}{% endcomponent %}
     {% <box title="News"> %}Rain{% </box> %}
 
-Call the component without a body, or let it show the body:
+Call the component without a body, or let it render the body:
 
     {% component box(title: string) %}{{ title }}: {{ body }}{% endcomponent %}
     {% <box title="News"> %}Rain{% </box> %}
@@ -178,9 +179,8 @@ Use the parameter, or remove it. If callers have to pass it, let its name begin 
 "##;
 
 const UNUSED_COMPONENT: &str = r##"
-No template calls a component, so no template shows it. A call in any file that is read counts, also in one of a library.
-The program that renders the templates may show components by itself, so this rule is off. It is on with `--select`, or
-in `tera.toml`:
+No template calls the component. A call in any file that is read counts, also in one of a library. The program that
+renders the templates may render components by itself, so this rule is off. It is on with `--select`, or in `tera.toml`:
 
     [rules]
     unused-component = "warning"
@@ -194,7 +194,7 @@ This is reported, if no other file calls `panel`:
     {% component panel(title: string) %}<p>{{ title }}</p>{% endcomponent %}
     {{<box title="News"/>}}
 
-Remove the component. If the program shows it, silence the finding:
+Remove the component. If the program renders it, silence the finding:
 
     {# tera-ignore: unused-component #}
     {% component panel(title: string) %}<p>{{ title }}</p>{% endcomponent %}
@@ -236,8 +236,8 @@ Correct the condition that is not meant:
 "##;
 
 const UNUSED_IGNORE: &str = r##"
-A comment silences findings of a rule, and there are none on its line, or no rule has this name. If the comment is alone
-on its line, it is about the next line too.
+A comment silences findings of a rule, and there are none on its line, or no rule has this name. A comment that is alone
+on its line silences findings on the next line too.
 
     {# tera-ignore: unused-parameter #}
     {% component box(title: string) %}{{ title }}{% endcomponent %}
@@ -280,18 +280,18 @@ This, in `menu.html`, is reported. Remove the include, or include a template tha
 "##;
 
 const UNDEFINED_BLOCK: &str = r##"
-A template extends another, and has a block that no template has that it extends. So the block is never shown.
+A template that extends another has a block that none of its parent templates has. So the block is never shown.
 
     {% extends "base.html" %}{% block contents %}News{% endblock %}
 
-Give it the name of a block of the other template, or add the block there:
+Give it the name of a block of a parent template, or add the block there:
 
     {% extends "base.html" %}{% block content %}News{% endblock %}
 "##;
 
 const SUPER_WITHOUT_PARENT: &str = r##"
-`super()` shows the block of the template that this one extends. Here no template that it extends has the block, or
-`super()` is in no block, so there is nothing to show.
+`super()` shows the block of the parent template. Here no parent template has the block, or `super()` is not in a block,
+so there is nothing to show.
 
     {% block content %}{{ super() }}News{% endblock %}
 

@@ -118,7 +118,7 @@ pub(crate) fn why_unfit(alloc: Global, why: &Unfit) -> Result<String, AllocError
         Unfit::Rule(error) => rule_of(alloc, error),
         Unfit::Unsteady => String::from_str(
             alloc,
-            "`block_start` and ends of tags may begin with no dash, letter, digit or `_`",
+            "`block_start` and ends of tags must not begin with a dash, letter, digit or `_`",
         ),
     }
 }

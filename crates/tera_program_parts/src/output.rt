@@ -126,7 +126,7 @@ pub fn print_unwritten<R: Eprint + AllocGlobal>(rt: &R, file: &str, why: Unwritt
 
 fn why_unwritten(alloc: Global, why: Unwritten) -> Result<String, AllocError> {
     match why {
-        Unwritten::Changed => String::from_str(alloc, "changed meanwhile, and left as it is"),
+        Unwritten::Changed => String::from_str(alloc, "changed since it was read; left unchanged"),
         Unwritten::Failed(error) => format!(in alloc; "writing failed: {error}"),
         Unwritten::Incomplete(error) => {
             format!(in alloc; "writing failed, and the file is incomplete: {error}")

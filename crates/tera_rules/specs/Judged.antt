@@ -162,7 +162,7 @@ judged (Some k) name span ps = refused_findings k ps ++ missing_in k span ps
 -- ---- a body that is not only white space, for a component that never shows it
 
 abbrev pub unused_body_text : List ℕ → List ℕ
-unused_body_text name = codes "Component `" ++ (name ++ codes "` never shows the body that it is given")
+unused_body_text name = codes "Component `" ++ (name ++ codes "` never renders the body it is given")
 
 abbrev pub unused_body : Bool → List ℕ → Nodes → Option RemarkVal
 unused_body shows name body =

@@ -28,8 +28,8 @@ repeated_kind holders.Map = kinds.RepeatedKey
 
 abbrev pub repeated_text : Holder → List ℕ → List ℕ
 repeated_text holders.Call name =
-    codes "Argument `" ++ (name ++ codes "` is given more than once in component call. This value does not count.")
-repeated_text holders.Map name = codes "Key `" ++ (name ++ codes "` is given more than once in the map. This value does not count.")
+    codes "Argument `" ++ (name ++ codes "` is given more than once in component call. This value is ignored.")
+repeated_text holders.Map name = codes "Key `" ++ (name ++ codes "` is given more than once in the map. This value is ignored.")
 
 abbrev pub next_text : List ℕ
 next_text = codes "given again here"

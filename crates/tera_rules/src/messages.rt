@@ -24,7 +24,7 @@ pub(crate) fn repeated_argument(alloc: Global, key: &Key) -> Result<String, Allo
         ≡ repeated_text holders.Call (key_text (key_view key.now))) }
 {
     format!(in alloc;
-        "Argument `{key}` is given more than once in component call. This value does not count."
+        "Argument `{key}` is given more than once in component call. This value is ignored."
     )
 }
 
@@ -33,7 +33,7 @@ pub(crate) fn repeated_key(alloc: Global, key: &Key) -> Result<String, AllocErro
     ensures { IfOk result (λ m. string_bytes m
         ≡ repeated_text holders.Map (key_text (key_view key.now))) }
 {
-    format!(in alloc; "Key `{key}` is given more than once in the map. This value does not count.")
+    format!(in alloc; "Key `{key}` is given more than once in the map. This value is ignored.")
 }
 
 /// That the condition is the same as one before it in the chain.
@@ -61,7 +61,7 @@ pub(crate) fn given_again(alloc: Global) -> Result<String, AllocError>
 pub(crate) fn unused_body(alloc: Global, name: &str) -> Result<String, AllocError>
     ensures { IfOk result (λ m. string_bytes m ≡ unused_body_text name.now) }
 {
-    format!(in alloc; "Component `{name}` never shows the body that it is given")
+    format!(in alloc; "Component `{name}` never renders the body it is given")
 }
 
 /// Where the called component is defined.

@@ -25,13 +25,13 @@ abbrev pub missing : List ℕ → Span → FindingVal
 missing name span = FindingOf kinds.MissingTemplate span (missing_text name) []
 
 abbrev pub circular_extends_text : List ℕ → List ℕ
-circular_extends_text name = codes "Template `" ++ (name ++ codes "` extends this template, which extends it")
+circular_extends_text name = codes "This template extends `" ++ (name ++ codes "`, which in turn extends this template")
 
 abbrev pub circular_extends : List ℕ → Span → FindingVal
 circular_extends name span = FindingOf kinds.CircularExtends span (circular_extends_text name) []
 
 abbrev pub circular_include_text : List ℕ → List ℕ
-circular_include_text name = codes "Template `" ++ (name ++ codes "` includes or extends this template, which includes it")
+circular_include_text name = codes "This template includes `" ++ (name ++ codes "`, which in turn includes or extends this template")
 
 abbrev pub circular_include : List ℕ → Span → FindingVal
 circular_include name span = FindingOf kinds.CircularInclude span (circular_include_text name) []
@@ -56,7 +56,7 @@ abbrev pub lacks : AroundVal → List ℕ → Bool
 lacks a name = option_map_or (λ inherited. not (inherited name)) a.inherited false
 
 abbrev pub undefined_block_text : List ℕ → List ℕ
-undefined_block_text name = codes "No template that this one extends has a block named `" ++ (name ++ codes "`")
+undefined_block_text name = codes "No parent template has a block named `" ++ (name ++ codes "`")
 
 abbrev pub undefined_block : List ℕ → Span → FindingVal
 undefined_block name span = FindingOf kinds.UndefinedBlock span (undefined_block_text name) []
@@ -76,10 +76,10 @@ blocks_findings a (Some parent) ns = flat_map (block_findings a) ns
 -- ---- `super()` if there is nothing above the block
 
 abbrev pub super_outside_text : List ℕ
-super_outside_text = codes "`super()` is in no block"
+super_outside_text = codes "`super()` is not in a block"
 
 abbrev pub super_text : List ℕ → List ℕ
-super_text name = codes "`super()` has no value: no template that this one extends has a block named `" ++ (name ++ codes "`")
+super_text name = codes "`super()` has no value: no parent template has a block named `" ++ (name ++ codes "`")
 
 abbrev pub super_above : List ℕ → Span → FindingVal
 super_above name span = FindingOf kinds.SuperWithoutParent span (super_text name) []

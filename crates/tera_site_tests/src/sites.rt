@@ -56,20 +56,20 @@ const PLANTED: [(&str, &str); 16] = [
 ];
 
 const FOUND: &str =
-    "child:1:65: warning[super-without-parent]: `super()` has no value: no template that this one extends has a block named `new`
-child:2:10: warning[undefined-block]: No template that this one extends has a block named `b`
-child:2:17: warning[super-without-parent]: `super()` has no value: no template that this one extends has a block named `b`
-grand:2:10: warning[undefined-block]: No template that this one extends has a block named `c`
+    "child:1:65: warning[super-without-parent]: `super()` has no value: no parent template has a block named `new`
+child:2:10: warning[undefined-block]: No parent template has a block named `b`
+child:2:17: warning[super-without-parent]: `super()` has no value: no parent template has a block named `b`
+grand:2:10: warning[undefined-block]: No parent template has a block named `c`
 lost:1:17: error[missing-template]: No template is named `nowhere`
-itself:1:12: error[circular-extends]: Template `itself` extends this template, which extends it
-one:1:12: error[circular-extends]: Template `two` extends this template, which extends it
-two:1:12: error[circular-extends]: Template `one` extends this template, which extends it
-again:1:22: warning[circular-include]: Template `again` includes or extends this template, which includes it
-first:1:12: warning[circular-include]: Template `second` includes or extends this template, which includes it
-second:1:28: warning[circular-include]: Template `third` includes or extends this template, which includes it
+itself:1:12: error[circular-extends]: This template extends `itself`, which in turn extends this template
+one:1:12: error[circular-extends]: This template extends `two`, which in turn extends this template
+two:1:12: error[circular-extends]: This template extends `one`, which in turn extends this template
+again:1:22: warning[circular-include]: This template includes `again`, which in turn includes or extends this template
+first:1:12: warning[circular-include]: This template includes `second`, which in turn includes or extends this template
+second:1:28: warning[circular-include]: This template includes `third`, which in turn includes or extends this template
 includes:1:12: error[missing-template]: No template is named `absent`
-alone:1:4: warning[super-without-parent]: `super()` is in no block
-alone:1:30: warning[super-without-parent]: `super()` has no value: no template that this one extends has a block named `z`
+alone:1:4: warning[super-without-parent]: `super()` is not in a block
+alone:1:30: warning[super-without-parent]: `super()` has no value: no parent template has a block named `z`
 ";
 
 #[derive(Drop)]

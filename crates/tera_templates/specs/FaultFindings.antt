@@ -22,7 +22,7 @@ use Rattle.tera_templates.specs.declared.walk.Walk.{Walk}
 
 -- the text of the note where a fault was met, if its tag has no end
 abbrev pub met_text : List ℕ
-met_text = codes "met here, as the tag is not closed"
+met_text = codes "found here, because the tag is not closed"
 
 abbrev pub not_closed_text : List ℕ → List ℕ
 not_closed_text word = codes "`" ++ (word ++ codes "` opened here is not closed")
@@ -31,7 +31,7 @@ abbrev pub closes_nothing_text : List ℕ → List ℕ
 closes_nothing_text word = codes "`" ++ (word ++ codes "` closes nothing")
 
 abbrev pub belongs_to_nothing_text : List ℕ → List ℕ
-belongs_to_nothing_text word = codes "`" ++ (word ++ codes "` belongs to nothing")
+belongs_to_nothing_text word = codes "`" ++ (word ++ codes "` matches no open tag")
 
 -- the note on the cause: a word at a place, for a fault that was met at a span
 abbrev pub cause_notes : List ℕ → Span → Span → List ℕ → Says → List NoteVal

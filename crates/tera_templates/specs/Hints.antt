@@ -63,7 +63,7 @@ byte_order_mark = 0xEF ∷ 0xBB ∷ 0xBF ∷ []
 abbrev pub hint_for_mark : List ℕ → Option (List ℕ)
 hint_for_mark before =
     if begins_with byte_order_mark before
-    then Some (codes "the file begins with a byte order mark (U+FEFF), which is content: save it without one") else None
+    then Some (codes "the file begins with a byte order mark (U+FEFF), which counts as content: save it without one") else None
 
 abbrev pub blanks_in : List ℕ → ℕ
 blanks_in text = position_or_len (λ b. not (is_ascii_whitespace b)) text

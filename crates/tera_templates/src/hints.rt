@@ -121,7 +121,7 @@ fn hint_for_mark(before: &str) -> Option<&'static str>
 {
     if before.as_bytes().starts_with(&[0xEF, 0xBB, 0xBF]) {
         Some(
-            "the file begins with a byte order mark (U+FEFF), which is content: save it without one",
+            "the file begins with a byte order mark (U+FEFF), which counts as content: save it without one",
         )
     } else {
         None

@@ -23,12 +23,12 @@ pub(crate) fn closes_nothing(alloc: Global, word: &str) -> Result<String, AllocE
 pub(crate) fn belongs_to_nothing(alloc: Global, word: &str) -> Result<String, AllocError>
     ensures { IfOk result (λ m. string_bytes m ≡ belongs_to_nothing_text word.now) }
 {
-    format!(in alloc; "`{word}` belongs to nothing")
+    format!(in alloc; "`{word}` matches no open tag")
 }
 
 /// Where a fault was met, if its tag has no end.
 pub(crate) fn met_here(alloc: Global) -> Result<String, AllocError>
     ensures { IfOk result (λ m. string_bytes m ≡ met_text) }
 {
-    String::from_str(alloc, "met here, as the tag is not closed")
+    String::from_str(alloc, "found here, because the tag is not closed")
 }
