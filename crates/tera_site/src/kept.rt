@@ -43,6 +43,13 @@ impl KeptPage {
         ensures { IfOk result (λ p. kept_page p ≡ page_of template.now) }
     {
         let page = page_of(alloc, template)?;
+        KeptPage::of_page(alloc, &page)
+    }
+
+    /// The same of its page.
+    pub fn of_page(alloc: Global, page: &Page<'_>) -> Result<KeptPage, AllocError>
+        ensures { IfOk result (λ p. kept_page p ≡ page_view page.now) }
+    {
         Ok(KeptPage {
             parent: copy_of(alloc, page.parent)?,
             includes: copies_of(alloc, &page.includes)?,

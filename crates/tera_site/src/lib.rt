@@ -20,6 +20,6 @@ mod site;
 
 pub use found::{SiteNames, add_found, add_names, used_names};
 pub use kept::{KeptPage, Surroundings};
-pub use named::names_found;
+pub use named::{names_due, names_found};
 pub use pages::Page;
 pub use site::{Around, Site};

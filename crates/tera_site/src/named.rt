@@ -39,12 +39,13 @@ pub fn names_found(
     ensures found { IfOk result (λ v. IsPermutation (due_names (around_view around.entry) template.now)
         (map finding_view v.items)) }
 {
-    let mut due = due_in(alloc, around, template)?;
+    let mut due = names_due(alloc, around, template)?;
     put_in_order(&mut due)?;
     Ok(due)
 }
 
-fn due_in(
+/// The same in another order: what it extends, then its blocks, then what is in their bodies and beside them.
+pub fn names_due(
     alloc: Global,
     around: Around<'_, '_>,
     template: &Template,

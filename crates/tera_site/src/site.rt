@@ -85,7 +85,8 @@ impl<'a> Site<'a> {
         })
     }
 
-    fn has(&self, name: &str) -> bool
+    /// Whether there is a template of this name.
+    pub fn has(&self, name: &str) -> bool
         ensures { (number : ℕ) → result ≡ (around_in self.now number).has name.now }
     {
         self.numbers.contains_key(name) || self.others.contains(name)
