@@ -15,6 +15,8 @@ use Rattle.tera_findings.specs.Faults.{IsSyntaxError}
 use Rattle.tera_templates.specs.Ignores.{AreIgnoresIn}
 use Rattle.tera_templates.specs.Mended.{IsMended, text_of}
 use Rattle.tera_templates.specs.declared.templates.Template.{Template}
+use Rattle.tera_site.specs.Kept.{kept_page}
+use Rattle.tera_site.specs.Pages.{page_of}
 use Rattle.tera_workspace.specs.Fresh.{IsRead, most_faults}
 use Rattle.tera_workspace.specs.Kept.{reported_of, HasNames, IsAnew}
 use Rattle.tera_workspace.specs.Sources.{Source}
@@ -38,8 +40,8 @@ is_read name text t file sound complete fault refusal lost notes unmended mended
     record { file = file; sound = sound; complete = complete; fault = fault; refusal = refusal; lost = lost; notes = notes; unmended = unmended; mended = mended; places = places; ignores = ignores; hidden = hidden }
 
 pub is_anew : (name text : List ℕ) (j : Judged) → j.text ≡ text → IsRead (record { name = name; text = text }) j.template
-    → HasNames j.names.items j.template → j.stale ≡ true → reported_of j ≡ [] → IsAnew name text j
-is_anew name text j same read names stale unreported =
+    → HasNames j.names.items j.template → kept_page j.page ≡ page_of j.template → j.stale ≡ true → reported_of j ≡ [] → IsAnew name text j
+is_anew name text j same read names page stale unreported =
     record {
       named = read.file;
       texted = same;
@@ -49,6 +51,7 @@ is_anew name text j same read names stale unreported =
           record {
             read = subst (λ (x : Source). IsRead x j.template) is read;
             names = names;
+            page = page;
           };
       stale = stale;
       unreported = unreported;

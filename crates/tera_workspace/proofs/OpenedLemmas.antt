@@ -18,7 +18,7 @@ false_true e = cc
 
 stale_whole : (js : List Judged) → AllWhole js → AllWhole (map made_stale js)
 stale_whole [] w = tt
-stale_whole (j ∷ js) w = (record { read = w.0.read; names = w.0.names }, stale_whole js w.1)
+stale_whole (j ∷ js) w = (record { read = w.0.read; names = w.0.names; page = w.0.page }, stale_whole js w.1)
 
 stale_sources : (js : List Judged) → sources_of (map made_stale js) ≡ sources_of js
 stale_sources [] = refl

@@ -19,6 +19,7 @@ use Rattle.tera_workspace.specs.Sources.{Source, AreInOrder, AreAscending, text_
 use Rattle.tera_workspace.specs.declared.diagnostics.Diagnostic.{Diagnostic}
 use Rattle.tera_workspace.specs.declared.judged.Judged.{Judged}
 use Rattle.tera_workspace.proofs.NumberLemmas.{text_numbered}
+use Rattle.tera_workspace.proofs.OrderLemmas.{all_above}
 use Rattle.tera_workspace.proofs.PlaceLemmas.{differ}
 use Rattle.tera_workspace.proofs.CurrentLemmas.{replaced_current, marked_sources, marked_at, marked_length, sources_set}
 use Rattle.tera_workspace.proofs.InsertLemmas.{inserted_current}
@@ -118,7 +119,7 @@ module _ (name : List ℕ) (j : Judged) (named : string_bytes j.template.file �
 -- ---- all of them whole
 
 whole_with : (j : Judged) (touched : List (List ℕ)) (file : List ℕ) → IsWhole j → IsWhole (marked touched file j)
-whole_with j touched file w = record { read = w.read; names = w.names }
+whole_with j touched file w = record { read = w.read; names = w.names; page = w.page }
 
 marked_whole : (touched : List (List ℕ)) (file : List ℕ) (js : List Judged) → AllWhole js → AllWhole (map (marked touched file) js)
 marked_whole touched file [] w = tt
@@ -166,10 +167,6 @@ turned Less g = absurd (false_true g)
 turned Equal g = absurd (false_true g)
 turned Greater g = refl
 
-all_above : (a b : List ℕ) → slice_cmp nat_cmp a b ≡ Less → (ns : List (List ℕ)) → AllByRecursion (λ n. slice_cmp nat_cmp b n ≡ Less) ns → AllByRecursion (λ n. slice_cmp nat_cmp a n ≡ Less) ns
-all_above a b h [] all = tt
-all_above a b h (n ∷ ns) all = (nat_list_cmp_total.trans a b n h all.0, all_above a b h ns all.1)
-
 all_insert : (a : List ℕ) (js : List Judged) (i : ℕ) (j : Judged) → AllByRecursion (λ n. slice_cmp nat_cmp a n ≡ Less) (map (λ (s : Source). s.name) (sources_of js)) → slice_cmp nat_cmp a (string_bytes j.template.file) ≡ Less
     → i ≤ length js → AllByRecursion (λ n. slice_cmp nat_cmp a n ≡ Less) (map (λ (s : Source). s.name) (sources_of (insert js i j)))
 all_insert a js zero j all h within = (h, all)
@@ -215,7 +212,7 @@ module _ (name : List ℕ) (touched : List (List ℕ)) (js : List Judged) (i : �
   put_there = set (map (marked touched name) js) i with_reported
 
   whole_reported : IsWhole with_reported
-  whole_reported = record { read = anew.whole.read; names = anew.whole.names }
+  whole_reported = record { read = anew.whole.read; names = anew.whole.names; page = anew.whole.page }
 
   reported_same : reported_of with_reported ≡ reported_of (get_or (map (marked touched name) js) i with_reported)
   reported_same = ap reported_of (default_same js i d with_reported number.within) ∙ sym (ap reported_of (marked_at touched name js i with_reported number.within))

@@ -33,7 +33,7 @@ one_template j (Some v) = refl
 
 one_whole : (j : Judged) (v : News) → IsWhole j → IsWhole (reported_one j v)
 one_whole j None w = w
-one_whole j (Some v) w = record { read = w.read; names = w.names }
+one_whole j (Some v) w = record { read = w.read; names = w.names; page = w.page }
 
 pub reported_sources : (js : List Judged) (news : List News) → sources_of (reported_each js news) ≡ sources_of js
 reported_sources [] news = refl

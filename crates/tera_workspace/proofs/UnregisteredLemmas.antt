@@ -11,14 +11,14 @@ use Rattle.tera_workspace.specs.Unregistered.{is_of_file, unknown_by, unknown_in
 use Rattle.tera_workspace.specs.declared.judged.Judged.{Judged}
 use Rattle.tera_workspace.proofs.NumberLemmas.{text_numbered}
 
-template_numbered : (name : List ℕ) (js : List Judged) (k : ℕ) (d : Judged) → IsNumbered name js k → find (is_of_file name) (templates_of js) ≡ Some (get_or js k d).template
+pub template_numbered : (name : List ℕ) (js : List Judged) (k : ℕ) (d : Judged) → IsNumbered name js k → find (is_of_file name) (templates_of js) ≡ Some (get_or js k d).template
 template_numbered name [] k d h = absurd (omega (arith, h.within))
 template_numbered name (j ∷ js) zero d h = ap (λ b. cond b (Some j.template) (find (is_of_file name) (templates_of js))) (h.is d)
 template_numbered name (j ∷ js) (suc k) d h =
     ap (λ b. cond b (Some j.template) (find (is_of_file name) (templates_of js))) (h.first 0 d (omega arith))
     ∙ template_numbered name js k d (record { within = omega (arith, h.within); is = h.is; first = λ m e below. h.first (suc m) e (omega arith) })
 
-template_nowhere : (name : List ℕ) (js : List Judged) → NoneBefore name js (length js) → find (is_of_file name) (templates_of js) ≡ None
+pub template_nowhere : (name : List ℕ) (js : List Judged) → NoneBefore name js (length js) → find (is_of_file name) (templates_of js) ≡ None
 template_nowhere name [] h = refl
 template_nowhere name (j ∷ js) h =
     ap (λ b. cond b (Some j.template) (find (is_of_file name) (templates_of js))) (h 0 j (omega arith)) ∙ template_nowhere name js (λ m e below. h (suc m) e (omega arith))

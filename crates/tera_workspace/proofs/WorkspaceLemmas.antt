@@ -12,14 +12,17 @@ use Rattle.tera_workspace.specs.Components.{components_by, files_by, parameters_
 use Rattle.tera_workspace.specs.Definitions.{AreRead, definition_by}
 use Rattle.tera_workspace.specs.Fresh.{AreFresh}
 use Rattle.tera_workspace.specs.Judgements.{IsJudgementIfAny}
-use Rattle.tera_workspace.specs.Kept.{name_of, sources_of, templates_of, reported_of, reported_named, AllWhole, AreCurrent, StayKept}
+use Rattle.tera_workspace.specs.Kept.{sources_of, templates_of, reported_of, reported_named, AllWhole, AreCurrent, StayKept}
 use Rattle.tera_workspace.specs.Names.{is_among}
+use Rattle.tera_workspace.specs.Sites.{AreNamed, FitsTemplates, named_by, templates_below}
 use Rattle.tera_workspace.specs.Sources.{Source, AreAscending, text_named}
 use Rattle.tera_workspace.specs.Reported.{AreNews, reported_each}
 use Rattle.tera_workspace.specs.Unregistered.{unknown_by}
 use Rattle.tera_workspace.specs.Workspaces.{IsKept, IsSettled}
 use Rattle.tera_workspace.specs.declared.judged.Judged.{Judged}
 use Rattle.tera_workspace.specs.declared.workspace.Workspace.{Workspace}
+use Rattle.tera_workspace.proofs.BelowLemmas.{names_are}
+use Rattle.tera_workspace.proofs.NamedLemmas.{named_by_fits}
 use Rattle.tera_workspace.proofs.NameSets.{among_append}
 use Rattle.tera_workspace.specs.Diagnostics.{DiagnosticVal}
 use Rattle.tera_workspace.proofs.PlaceLemmas.{first_false, second_false, false_true}
@@ -102,10 +105,6 @@ module _ (w : Workspace) (now : Vec Judged Global) (k : IsKept w) (stay : StayKe
 
 -- ---- all was read
 
-names_are : (js : List Judged) → map name_of js ≡ map (λ (s : Source). s.name) (sources_of js)
-names_are [] = refl
-names_are (j ∷ js) = ap (λ ns. name_of j ∷ ns) (names_are js)
-
 pub are_read : (w : Workspace) → IsKept w → w.changed.items ≡ [] → AreRead w
 are_read w k none = record {
   sources = sources_of w.judged.items;
@@ -119,6 +118,7 @@ are_read w k none = record {
   there = ap (files_by w.documents) (names_are w.judged.items);
   judgements = λ n j is. is;
   unknown = λ r n. refl;
+  named = λ s fits. named_by_fits w.encoding (sources_of w.judged.items) w.documents w.judged.items s k.ordered fits;
 }
 
 -- whether a file is there, by the text that is found
@@ -216,4 +216,8 @@ module _ (w : Workspace) (now : Vec Judged Global) (news : List News) (k : IsKep
         ap (λ ss. unknown_by w.encoding ss (templates_of now.items) r n) same_sources
         ∙ ap (λ ts. unknown_by w.encoding (sources_of w.judged.items) ts r n) same_templates
         ∙ read.unknown r n;
+    named = λ s fits.
+        subst (AreNamed w.encoding read.sources (templates_below s.root w.documents read.templates) s.root s.others)
+        (λ i. named_by w.encoding (sym same_sources i) (sym same_templates i) s)
+        (read.named s (subst (λ ts. FitsTemplates s w.documents ts) same_templates fits));
   }

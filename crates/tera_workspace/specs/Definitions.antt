@@ -15,6 +15,8 @@ use Rattle.tera_workspace.specs.Diagnostics.{position_in}
 use Rattle.tera_workspace.specs.Fresh.{AreTemplates}
 use Rattle.tera_workspace.specs.Judgements.{IsJudgementIfAny, IsJudgementOf}
 use Rattle.tera_workspace.specs.Kept.{sources_of, templates_of}
+use Rattle.tera_workspace.specs.SiteValues.{KeptSiteVal}
+use Rattle.tera_workspace.specs.Sites.{AreNamed, FitsWorkspace, named_of_name, templates_below}
 use Rattle.tera_workspace.specs.Sources.{Source, AreSources, text_named}
 use Rattle.tera_workspace.specs.Unregistered.{unknown_by, unknown_of_name}
 use Rattle.tera_workspace.specs.declared.judgements.Judgement.{Judgement}
@@ -68,6 +70,8 @@ pub record AreRead (w : Workspace) : Type 0 where
   pub there : files_of w ≡ files_by w.documents (map (λ s. s.name) sources)
   pub judgements : (n : List ℕ) (j : Option Judgement) → IsJudgementOf w n j → IsJudgementIfAny sources templates n j
   pub unknown : (r : RegisteredVal) (n : List ℕ) → unknown_of_name w r n ≡ unknown_by w.encoding sources templates r n
+  pub named : (s : KeptSiteVal) → FitsWorkspace s w
+      → AreNamed w.encoding sources (templates_below s.root w.documents templates) s.root s.others (named_of_name w s)
 
 -- ---- what holds of the answers
 

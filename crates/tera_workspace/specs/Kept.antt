@@ -11,6 +11,8 @@ use Rattle.tera_tree.specs.Outputs.{output_view}
 use Rattle.tera_check.specs.Alike.{names_in}
 use Rattle.tera_templates.specs.Templates.{tree_of}
 use Rattle.tera_templates.specs.declared.templates.Template.{Template}
+use Rattle.tera_site.specs.Kept.{kept_page}
+use Rattle.tera_site.specs.Pages.{page_of}
 use Rattle.text_edits.specs.declared.positions.Encoding.{Encoding}
 use Rattle.tera_workspace.specs.Diagnostics.{DiagnosticVal, diagnostic_view}
 use Rattle.tera_workspace.specs.Fresh.{IsRead, IsReported}
@@ -67,6 +69,7 @@ HasNames names t = MatchOption (tree_of t) (Unit {0}) (λ o. map string_bytes na
 pub record IsWhole (j : Judged) : Type 0 where
   pub read : IsRead (source_of j) j.template
   pub names : HasNames j.names.items j.template
+  pub page : kept_page j.page ≡ page_of j.template
 
 -- a document of this name and text, for which nothing was reported yet
 pub record IsAnew (name text : List ℕ) (j : Judged) : Type 0 where

@@ -6,7 +6,10 @@ pub mod Fresh
 pub mod Heads
 pub mod Judgements
 pub mod Kept
+pub mod KeptSites
 pub mod Names
+pub mod SiteValues
+pub mod Sites
 pub mod Sources
 pub mod Reported
 pub mod Unregistered

@@ -15,6 +15,7 @@ use std::alloc::{AllocError, Global};
 use tera_check::{Template, calls_of, is_open, read_template, tree_of};
 use tera_parser::ast::{ComponentCall, ComponentDefinition};
 use tera_parser::value::Spanned;
+use tera_site::KeptPage;
 
 /// How many faults of a document are reported at most.
 const MOST_FAULTS: usize = 100;
@@ -26,6 +27,8 @@ pub(crate) struct Judged {
     pub(crate) template: Template,
     // The names of the components that it defines and calls, in their order.
     pub(crate) names: Vec<String>,
+    // What it says of other templates by their names.
+    pub(crate) page: KeptPage,
     // Whether its findings may be others than those that were reported.
     pub(crate) stale: bool,
     pub(crate) reported: Vec<Diagnostic>,
@@ -39,10 +42,12 @@ impl Judged {
         let lined = LinedText::of(alloc, text)?;
         let template = read_template(alloc, name, text, MOST_FAULTS)?;
         let names = names_of(alloc, &template)?;
+        let page = KeptPage::of(alloc, &template)?;
         Ok(Judged {
             text: lined,
             template,
             names,
+            page,
             stale: true,
             reported: Vec::new(alloc),
         })

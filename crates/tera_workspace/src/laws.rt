@@ -11,6 +11,8 @@ ghost use Rattle.tera_workspace.specs.Beside.{IsBeside, AgreeBut};
 ghost use Rattle.tera_workspace.specs.Components.{components_of, parameters_of_name};
 ghost use Rattle.tera_workspace.specs.Definitions.{DefinitionVal, definition_of_name, IsDefinedIn, IsParameterIn};
 ghost use Rattle.tera_workspace.specs.Kept.{sources_of, templates_of};
+ghost use Rattle.tera_workspace.specs.SiteValues.{KeptSiteVal};
+ghost use Rattle.tera_workspace.specs.Sites.{AreNamed, FitsWorkspace, named_of_name, templates_below};
 ghost use Rattle.tera_workspace.specs.declared.workspace.Workspace.{Workspace};
 
 /// If no note of what is found in a tree is in a file, the same is found with other components under the names that the
@@ -40,4 +42,12 @@ pub fn components_are_defined()
 pub fn parameters_are_defined()
     ensures { (w : Workspace) (n p : List ℕ) → Contains (parameters_of_name w n) p →
         IsParameterIn (templates_of w.judged.items) n p }
+{}
+
+/// By a site that fits the documents there is found in each of its templates what is due of names by what is around the
+/// template in the site, and nothing in other files.
+pub fn named_in_site()
+    ensures { (s : KeptSiteVal) (w : Workspace) → FitsWorkspace s w → AreNamed w.encoding
+        (sources_of w.judged.items) (templates_below s.root w.documents (templates_of w.judged.items))
+        s.root s.others (named_of_name w s) }
 {}

@@ -5,11 +5,12 @@
 //! Checked again are the document, the documents that name a component that may have changed, and those that have a
 //! finding with a place in it. It also has the names of the components and of the files, the parameters of a component,
 //! where it is defined, the texts that were read, and what is found in one document, also by what a program registers.
+//! Of a site it keeps what is around each of its templates, and finds what is wrong with their names.
 //!
 //! In the order of reading: specs `Sources`, `Diagnostics`, `Fresh`, `Workspaces`; `lined_text` and `diagnostics`;
 //! `judged`, a document as it was checked; `reading`, and `touched`, what a new text changes for others; `catalogue`;
 //! `news`; specs `Components`, `Judgements`, `Unregistered` and `Definitions`; `workspace`; `queries`; `judgements`;
-//! `unknown`.
+//! `unknown`; specs `SiteValues`, `Sites` and `sites`, then `named`.
 #![tactic(auto)]
 
 mod catalogue;
@@ -18,9 +19,11 @@ mod judged;
 mod judgements;
 pub mod laws;
 mod lined_text;
+mod named;
 mod news;
 mod queries;
 mod reading;
+mod sites;
 mod touched;
 mod unknown;
 mod workspace;
@@ -28,4 +31,5 @@ mod workspace;
 pub use diagnostics::{Diagnostic, Related};
 pub use judgements::Judgement;
 pub use queries::{Definition, FileText};
+pub use sites::KeptSite;
 pub use workspace::Workspace;

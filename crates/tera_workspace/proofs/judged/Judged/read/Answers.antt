@@ -8,4 +8,4 @@ returns c =
     let t = c.in_ok-template.ensures in
     is_anew c.args.name.now c.args.text.now _ c.in_ok-lined.ensures
     (is_read c.args.name.now c.args.text.now c.in_ok-template.template t.file t.sound t.complete t.fault t.refusal t.lost t.notes t.whole t.mended t.places t.ignores t.hidden)
-    c.in_ok-names.ensures refl (ap (map diagnostic_view) c.new.ensures.items)
+    c.in_ok-names.ensures c.in_ok-page.ensures refl (ap (map diagnostic_view) c.new.ensures.items)
