@@ -12,15 +12,17 @@ use denote.Enum.Bare.{same_true}
 use Rattle.tera_findings.specs.contracts.finding.Severity.{the_type as the_severities}
 use Rattle.tera_findings.specs.contracts.finding.SeverityPartialEq.TheImpl as severity_test
 use Rattle.tera_findings.specs.declared.finding.Severity.{Severity}
-use Rattle.tera_server.specs.Configuring.{AreFoundSet, ArePublishedAgain, IsConfiguredBy, IsUnconfigured, settings_by}
+use Rattle.tera_server.specs.Configuring.{AreFoundSet, ArePublishedAgain, IsConfiguredBy, IsUnconfigured, settings_by, site_by}
 use Rattle.tera_server.specs.Sending.{unpublished_of}
 use Rattle.tera_server.specs.Settings.{rule_view, settings_in}
+use Rattle.tera_server.specs.Sites.{AreGiven, IsSiteAt, site_in}
 use Rattle.tera_server.specs.States.{Grows, edited_by, edited_of, with_name}
 use Rattle.tera_server.specs.UnreadFiles.{ReasonVal, is_same, why_of}
 use Rattle.tera_server.specs.contracts.settings.RuleSettingPartialEq.TheImpl as rule_test
 use Rattle.tera_server.specs.declared.configuring.FoundSettings.{FoundSettings}
 use Rattle.tera_server.specs.declared.server.Server.{Server}
 use Rattle.tera_server.specs.declared.settings.RuleSetting.{RuleSetting}
+use Rattle.tera_server.specs.declared.sites.Sites.{Sites}
 
 both_true : (a b : Bool) → (a && b) ≡ true → (a ≡ true) × (b ≡ true)
 both_true true b is = (refl, is)
@@ -105,42 +107,63 @@ same_rules (x ∷ xs) (y ∷ ys) is =
 
 -- ---- steps after another
 
-module _ (s a b t : Server) (first : a ≡ record s { unpublished = a.unpublished }) (second : b ≡ record a { unread = b.unread; edited = b.edited })
-    (third : t ≡ record b { settings = t.settings; unread = t.unread; edited = t.edited }) where
+module _ (s a z b t : Server) (first : a ≡ record s { unpublished = a.unpublished }) (sited : z ≡ record a { sites = z.sites })
+    (second : b ≡ record z { unread = b.unread; edited = b.edited }) (third : t ≡ record b { settings = t.settings; unread = t.unread; edited = t.edited }) where
   abbrev with_those : Server → Server
   with_those x = record x { settings = t.settings; unread = t.unread; edited = t.edited }
 
+  abbrev with_sites : Server → Server
+  with_sites x = record x { settings = t.settings; sites = z.sites; unread = t.unread; edited = t.edited }
+
   pub unpublished_is : t.unpublished ≡ a.unpublished
-  unpublished_is = ap (λ x. x.unpublished) third ∙ ap (λ x. x.unpublished) second
+  unpublished_is = ap (λ x. x.unpublished) third ∙ ap (λ x. x.unpublished) second ∙ ap (λ x. x.unpublished) sited
 
   pub settings_are : b.settings ≡ s.settings
-  settings_are = ap (λ x. x.settings) second ∙ ap (λ x. x.settings) first
+  settings_are = ap (λ x. x.settings) second ∙ ap (λ x. x.settings) sited ∙ ap (λ x. x.settings) first
 
-  edited_is : edited_of a ≡ edited_of s
-  edited_is = ap edited_of first
+  pub sites_are : t.sites ≡ z.sites
+  sites_are = ap (λ x. x.sites) third ∙ ap (λ x. x.sites) second
 
-  pub same_but : t ≡ record s { settings = t.settings; unread = t.unread; edited = t.edited; unpublished = t.unpublished }
+  edited_is : edited_of z ≡ edited_of s
+  edited_is = ap edited_of sited ∙ ap edited_of first
+
+  pub same_but : t ≡ record s { settings = t.settings; sites = t.sites; unread = t.unread; edited = t.edited; unpublished = t.unpublished }
   same_but =
-      third ∙ ap with_those second ∙ ap with_those first
-      ∙ ap (λ u. record s { settings = t.settings; unread = t.unread; edited = t.edited; unpublished = u }) (sym unpublished_is)
+      third ∙ ap with_those second ∙ ap with_those sited ∙ ap with_sites first
+      ∙ ap (λ u. record s { settings = t.settings; sites = z.sites; unread = t.unread; edited = t.edited; unpublished = u }) (sym unpublished_is)
+      ∙ ap (λ x. record s { settings = t.settings; sites = x; unread = t.unread; edited = t.edited; unpublished = t.unpublished }) (sym sites_are)
 
-  pub unconfigured : Grows (unpublished_of s) (unpublished_of a) → Grows (edited_of a) (edited_of b) → Grows (edited_of b) (edited_of t) → IsUnconfigured s t
-  unconfigured published edited more = record {
+  pub unconfigured : Grows (unpublished_of s) (unpublished_of a) → (AreGiven a.sites → AreGiven z.sites) → Grows (edited_of z) (edited_of b) → Grows (edited_of b) (edited_of t) → IsUnconfigured s t
+  unconfigured published given edited more = record {
     same = same_but;
-    edited = subst (λ ns. Grows ns (edited_of t)) edited_is (grows_on (edited_of a) (edited_of b) (edited_of t) edited more);
+    edited = subst (λ ns. Grows ns (edited_of t)) edited_is (grows_on (edited_of z) (edited_of b) (edited_of t) edited more);
     unpublished = grows_to (unpublished_of s) (unpublished_of a) (unpublished_of t) (ap (λ u. map string_bytes u.items) (sym unpublished_is)) published;
+    given = λ g. subst AreGiven (sym sites_are) (given (subst AreGiven (sym (ap (λ x. x.sites) first)) g));
   }
 
-  pub configured : (folder : List ℕ) (found : FoundSettings) → IsUnconfigured s t → AreFoundSet folder found b t → ArePublishedAgain folder found s a → IsConfiguredBy folder found s t
-  configured folder found rest h published = record {
+  pub configured : (folder : List ℕ) (found : FoundSettings) → IsUnconfigured s t → AreFoundSet folder found b t → ArePublishedAgain folder found s a
+      → IsSiteAt folder (site_by found (site_in a.sites folder)) a.sites z.sites → z.sites.renewed ≡ a.sites.renewed → IsConfiguredBy folder found s t
+  configured folder found rest h published site renewed = record {
     rest = rest;
     set = record {
       settings = λ f. h.settings f ∙ ap (λ x. cond (bytes_eq folder f) (settings_by found (settings_in x f)) (settings_in x f)) settings_are;
       file = h.file;
       why = h.why;
     };
+    site =
+        subst (λ x. IsSiteAt folder (site_by found (site_in s.sites folder)) s.sites x) (sym sites_are)
+        (subst (λ x. IsSiteAt folder (site_by found (site_in x folder)) x z.sites) (ap (λ x. x.sites) first) site);
+    renewed = ap (λ x. x.renewed) sites_are ∙ renewed ∙ ap (λ x. x.sites.renewed) first;
     published = elim published [
       | inl kept ↦ inl (kept.0, kept.1, ap (λ u. map string_bytes u.items) unpublished_is ∙ kept.2)
       | inr more ↦ inr (ap (λ u. map string_bytes u.items) unpublished_is ∙ more)
     ];
   }
+
+-- the site of a folder stays
+pub site_stays : (s : Sites) (folder : List ℕ) → IsSiteAt folder (site_in s folder) s s
+site_stays s folder f = by (bytes_eq folder f) (bytes_eq-Decides folder f).0
+  where
+    by : (b : Bool) → (b ≡ true → folder ≡ f) → site_in s f ≡ cond b (site_in s folder) (site_in s f)
+    by true is = ap (site_in s) (sym (is refl))
+    by false is = refl

@@ -12,6 +12,7 @@ pub mod LayoutLemmas
 pub mod LevelLemmas
 pub mod ListLemmas
 pub mod NameLemmas
+pub mod NamingLemmas
 pub mod NearestLemmas
 pub mod NeedLemmas
 pub mod NestingLemmas
@@ -20,6 +21,7 @@ pub mod ReferenceLemmas
 pub mod RequestLemmas
 pub mod SelectionLemmas
 pub mod SignatureLemmas
+pub mod SiteLemmas
 pub mod StepLemmas
 pub mod Tails
 pub mod TemplateNames

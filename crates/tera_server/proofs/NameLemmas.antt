@@ -1,7 +1,10 @@
 -- Names that are added one after another.
-use Rattle.std.proofs.Common.{◌≡◌, ◌∙◌, ◌<◌, ◌+◌, ◌++◌, ◌∷◌, [], ℕ, List, length, drop, get_or, drop-cons, add-one, Option, None, Some, refl, sym, ap, subst, append_assoc}
+use Rattle.std.proofs.Common.{◌≡◌, ◌≢◌, ◌∙◌, ◌⊎◌, inr, ◌<◌, ◌+◌, ◌++◌, ◌∷◌, [], ℕ, List, length, drop, get_or, drop-cons, add-one, Option, None, Some, Bor, refl, sym, ap, subst, append_assoc, arith}
+use Rattle.std.specs.Option.{MatchOption}
+use Rattle.std.specs.Str.Pattern.{FindsCharSuffix, StripsSuffix}
 use Rattle.std.proofs.lemmas.List.{append-nil}
-use Rattle.tera_server.specs.Notes.{AreNames, AddsName}
+use Rattle.std.proofs.lemmas.Str.Pattern.{strip_suffix_char}
+use Rattle.tera_server.specs.Notes.{AreNames, AddsName, IsBare}
 
 -- what is to come of the names of all, when those of the first ones are there
 abbrev pub Follow : List (Option (List ℕ)) → List (Option (List ℕ)) → List (List ℕ) → Type 0
@@ -21,3 +24,11 @@ drop_at xs i x within = drop-cons xs i x within ∙ rw (add-one i) refl
 
 pub drop_next : {X : Type 0} (xs : List X) (i : ℕ) (x : X) → i < length xs → x ≡ get_or xs i x → drop i xs ≡ x ∷ drop (i + 1) xs
 drop_next xs i x within is = drop_at xs i x within ∙ ap (λ y. y ∷ drop (i + 1) xs) (sym is)
+
+-- ---- a slash at the end of a path
+
+pub not_slashed : (path : List ℕ) (r : Option (Bor (List ℕ))) → MatchOption r (FindsCharSuffix 47 path None) (λ x. StripsSuffix (FindsCharSuffix 47) path x.now) → r ≡ None → IsBare path path
+not_slashed path r h is =
+    let none : (front : List ℕ) → path ≢ front ++ (47 ∷ []) =
+    subst (λ (o : Option (Bor (List ℕ))). MatchOption o ((front : List ℕ) → path ≢ front ++ (47 ∷ [])) (λ x. path ≡ x.now ++ (47 ∷ []))) is (strip_suffix_char 47 path r h (omega arith)) in
+    inr (refl, λ front some. none front)

@@ -17,11 +17,15 @@ use Rattle.tera_workspace.specs.Workspaces.{reported_of_name, IsKept, IsSettled,
 use Rattle.tera_workspace.specs.declared.workspace.Workspace.{Workspace}
 use Rattle.tera_workspace.proofs.NameSets.{among_append}
 use Rattle.tera_server.specs.Editors.{state_of}
-use Rattle.tera_server.specs.Sending.{with_all, found_message, unless_lost, messages_in, publisher_of, Publisher, SendsFirst, names_once}
+use Rattle.tera_server.specs.Sending.{with_all, found_message, unless_lost, messages_in, Publisher, SendsFirst, names_once}
 use Rattle.tera_server.specs.Settling.{due_of, ArePublished, ArePublishedInPart}
+use Rattle.tera_server.specs.States.{edited_of}
+use Rattle.tera_server.specs.Sites.{AreAround, AreFitting, AreGiven, AreSaid, HaveOthers, renewed_of}
 use Rattle.tera_server.specs.declared.editor.DocumentState.{DocumentState}
 use Rattle.tera_server.specs.declared.editor.DocumentState.TheVariants.{Open, Lost, Closed}
 use Rattle.tera_server.specs.declared.server.Server.{Server}
+use Rattle.tera_server.specs.declared.sites.Sites.{Sites}
+use Rattle.tera_server.proofs.SiteLemmas.{among_either, around_same, is_head}
 
 -- ---- more messages
 
@@ -81,26 +85,11 @@ among_right n (x ∷ xs) ys h = by (bytes_eq x n) (among_right n xs ys h)
     by true e = refl
     by false e = e
 
-pub among_either : (n : List ℕ) (xs ys : List (List ℕ)) → is_among n (xs ++ ys) ≡ true → (is_among n xs ≡ true) ⊎ (is_among n ys ≡ true)
-among_either n [] ys h = inr h
-among_either n (x ∷ xs) ys h = by (bytes_eq x n) (among_either n xs ys) h
-  where
-    by : (b : Bool) → (is_among n (xs ++ ys) ≡ true → (is_among n xs ≡ true) ⊎ (is_among n ys ≡ true)) → (if b then true else is_among n (xs ++ ys)) ≡ true → ((if b then true else is_among n xs) ≡ true) ⊎ (is_among n ys ≡ true)
-    by true f e = inl refl
-    by false f e = f e
-
 head_among : (n m : List ℕ) (ms : List (List ℕ)) → bytes_eq m n ≡ true → is_among n (m ∷ ms) ≡ true
 head_among n m ms e = ap (λ b. if b then true else is_among n ms) e
 
 tail_among : (n m : List ℕ) (ms : List (List ℕ)) → is_among n ms ≡ true → is_among n (m ∷ ms) ≡ true
 tail_among n m ms e = among_right n (m ∷ []) ms e
-
-is_head : (n m : List ℕ) → is_among n (m ∷ []) ≡ true → bytes_eq m n ≡ true
-is_head n m h = by (bytes_eq m n) h
-  where
-    by : (b : Bool) → (if b then true else false) ≡ true → b ≡ true
-    by true e = refl
-    by false e = e
 
 -- ---- names that are not among others, each once
 
@@ -258,82 +247,138 @@ NameList = Vec (String Global) Global
 abbrev pub names_of : NameList → List (List ℕ)
 names_of v = map string_bytes v.items
 
--- the server after that, when w was found: what is to be published is something else
-abbrev pub with_found : Server → Workspace → NameList → NameList → Server
-with_found s w unpublished edited = record s { workspace = w; unpublished = unpublished; edited = edited }
+-- the server after that, when w was found, and the sites by it: what is to be published is something else
+abbrev pub with_found : Server → Workspace → Sites → NameList → NameList → Server
+with_found s w sites unpublished edited = record s { workspace = w; sites = sites; unpublished = unpublished; edited = edited }
+
+-- by what it publishes then
+abbrev pub publisher_by : Server → Sites → Publisher
+publisher_by s sites = record {
+  editor = s.editor;
+  unread = s.unread;
+  related = s.client.related;
+  settings = s.settings;
+  sites = sites;
+  folders = map string_bytes s.folders.items;
+}
+
+-- those of two lists are among those of three
+pub among_outer : (n : List ℕ) (xs ys zs : List (List ℕ)) → is_among n (xs ++ zs) ≡ true → is_among n ((xs ++ ys) ++ zs) ≡ true
+among_outer n xs ys zs h = elim (among_either n xs zs h) [
+  | inl e ↦ among_left n (xs ++ ys) zs (among_left n xs ys e)
+  | inr e ↦ among_right n (xs ++ ys) zs e
+]
 
 -- none of those that were due were published, and nothing else is reported than before
-pub part_none : (s : Server) (w : Workspace) (unpublished due : NameList) (old : Outgoing) → names_of due ≡ due_of s → ((n : List ℕ) → reported_of_name w n ≡ reported_of_name s.workspace n) →
-    ArePublishedInPart s (with_found s w unpublished due) old old
-part_none s w unpublished due old is same = record {
+pub part_none : (s : Server) (w : Workspace) (sites : Sites) (unpublished due : NameList) (named : List (List ℕ)) (old : Outgoing) →
+    names_of due ++ renewed_of sites ≡ due_of s ++ named → AreAround named s.sites sites →
+    (IsKept s.workspace → (n : List ℕ) → (reported_of_name w n ≡ reported_of_name s.workspace n → ⊥) → is_among n (names_of unpublished) ≡ true) →
+    ArePublishedInPart s (with_found s w sites unpublished due) old old
+part_none s w sites unpublished due named old is around others = record {
   names = [];
+  named = named;
+  around = around;
   sent = sym (with_none old);
-  others = λ kept n differs. absurd (differs (same n));
-  due = λ n h. inr (among_left n (names_of due) (names_of unpublished) (subst (λ ns. is_among n ns ≡ true) (sym is) h));
+  others = others;
+  due = λ n h. inr (among_outer n (names_of due) (names_of unpublished) (renewed_of sites) (subst (λ ns. is_among n ns ≡ true) (sym is) h));
+  only = λ n h. absurd (cc);
+}
+
+-- .. as nothing was found
+pub part_before : (s : Server) (w : Workspace) (unpublished due : NameList) (old : Outgoing) →
+    names_of due ++ renewed_of s.sites ≡ due_of s → ((n : List ℕ) → reported_of_name w n ≡ reported_of_name s.workspace n) →
+    ArePublishedInPart s (with_found s w s.sites unpublished due) old old
+part_before s w unpublished due old is same =
+    part_none s w s.sites unpublished due [] old (is ∙ sym (append-nil (due_of s))) (around_same s.sites) (λ kept n differs. absurd (differs (same n)))
+
+-- .. as not even those that were due are together
+pub part_same : (s : Server) (unpublished edited : NameList) (old : Outgoing) → edited.items ≡ s.edited.items → unpublished.items ≡ s.unpublished.items →
+    ArePublishedInPart s (with_found s s.workspace s.sites unpublished edited) old old
+part_same s unpublished edited old one other = record {
+  names = [];
+  named = [];
+  around = around_same s.sites;
+  sent = sym (with_none old);
+  others = λ kept n differs. absurd (differs refl);
+  due = λ n h. inr (subst (λ ns. is_among n ns ≡ true)
+      (append-nil (due_of s) ∙ sym (ap (λ xs. (map string_bytes xs ++ names_of unpublished) ++ renewed_of s.sites) one ∙ ap (λ xs. (edited_of s ++ map string_bytes xs) ++ renewed_of s.sites) other)) h);
   only = λ n h. absurd (cc);
 }
 
 -- some of those that were due were published
-pub part_due : (s : Server) (w : Workspace) (others due : NameList) (old now : Outgoing) → names_of due ≡ due_of s →
+pub part_due : (s : Server) (w : Workspace) (sites : Sites) (others due : NameList) (named : List (List ℕ)) (old now : Outgoing) →
+    names_of due ≡ due_of s ++ named → AreAround named s.sites sites →
     (IsKept s.workspace → AreOthers (names_of others) (reported_of_name s.workspace) (reported_of_name w)) →
-    SendsFirst (λ ns. messages_in (publisher_of s) w (names_once (names_of others) ns)) (names_of due) old now →
-    ArePublishedInPart s (with_found s w others due) old now
-part_due s w others due old now is are (first, rest, whole, sent) = record {
+    SendsFirst (λ ns. messages_in (publisher_by s sites) w (names_once (names_of others) ns)) (names_of due) old now →
+    ArePublishedInPart s (with_found s w sites others due) old now
+part_due s w sites others due named old now is around are (first, rest, whole, sent) = record {
   names = names_once (names_of others) first;
+  named = named;
+  around = around;
   sent = sent;
   others = λ kept n differs. is_other (reported_of_name s.workspace) (reported_of_name w) (names_of others) n ((are kept).same n) differs;
-  due = λ n h. inr (among_left n (names_of due) (names_of others) (subst (λ ns. is_among n ns ≡ true) (sym is) h));
+  due = λ n h. inr (among_left n (names_of due ++ names_of others) (renewed_of sites) (among_left n (names_of due) (names_of others) (subst (λ ns. is_among n ns ≡ true) (sym is) h)));
   only = λ n h. inl (subst (λ ns. is_among n ns ≡ true) (sym whole ∙ is) (among_left n first rest (among_once n (names_of others) first h)));
 }
 
 -- in two parts
-joined : (s : Server) (w : Workspace) (old next now : Outgoing) (due others : List (List ℕ)) →
-    next ≡ with_all old (messages_in (publisher_of s) w due) → now ≡ with_all next (messages_in (publisher_of s) w others) →
-    now ≡ with_all old (messages_in (publisher_of s) w (due ++ others))
-joined s w old next now due others more sent =
-    let messages = messages_in (publisher_of s) w in
+joined : (p : Publisher) (w : Workspace) (old next now : Outgoing) (due others : List (List ℕ)) →
+    next ≡ with_all old (messages_in p w due) → now ≡ with_all next (messages_in p w others) →
+    now ≡ with_all old (messages_in p w (due ++ others))
+joined p w old next now due others more sent =
+    let messages = messages_in p w in
     sent
     ∙ ap (λ o. with_all o (messages others)) more
     ∙ with_twice old (messages due) (messages others)
-    ∙ ap (with_all old) (sym (messages_join (publisher_of s) w due others))
+    ∙ ap (with_all old) (sym (messages_join p w due others))
 
 -- .. all of them, and some of those of which something else is reported
-pub part_others : (s : Server) (w : Workspace) (others edited : NameList) (old next now : Outgoing) →
+pub part_others : (s : Server) (w : Workspace) (sites : Sites) (others edited : NameList) (named : List (List ℕ)) (old next now : Outgoing) →
+    AreAround named s.sites sites →
     (IsKept s.workspace → AreOthers (names_of others) (reported_of_name s.workspace) (reported_of_name w)) →
-    next ≡ with_all old (messages_in (publisher_of s) w (names_once (names_of others) (due_of s))) →
-    SendsFirst (λ ns. messages_in (publisher_of s) w (names_once [] ns)) (names_of others) next now →
-    ArePublishedInPart s (with_found s w others edited) old now
-part_others s w others edited old next now are more (first, rest, whole, sent) =
-    let all = names_once (names_of others) (due_of s) in
+    next ≡ with_all old (messages_in (publisher_by s sites) w (names_once (names_of others) (due_of s ++ named))) →
+    SendsFirst (λ ns. messages_in (publisher_by s sites) w (names_once [] ns)) (names_of others) next now →
+    ArePublishedInPart s (with_found s w sites others edited) old now
+part_others s w sites others edited named old next now around are more (first, rest, whole, sent) =
+    let all = names_once (names_of others) (due_of s ++ named) in
     let some = names_once [] first in
     record {
       names = all ++ some;
-      sent = joined s w old next now all some more sent;
+      named = named;
+      around = around;
+      sent = joined (publisher_by s sites) w old next now all some more sent;
       others = λ kept n differs. is_other (reported_of_name s.workspace) (reported_of_name w) (names_of others) n ((are kept).same n) differs;
-      due = λ n h. elim (once_or_among n (names_of others) (due_of s) h) [
+      due = λ n h. elim (once_or_among n (names_of others) (due_of s ++ named) h) [
         | inl e ↦ inl (among_left n all some e)
-        | inr e ↦ inr (among_right n (names_of edited) (names_of others) e)
+        | inr e ↦ inr (among_left n (names_of edited ++ names_of others) (renewed_of sites) (among_right n (names_of edited) (names_of others) e))
       ];
       only = λ n h. elim (among_either n all some h) [
-        | inl e ↦ inl (among_once n (names_of others) (due_of s) e)
+        | inl e ↦ inl (among_once n (names_of others) (due_of s ++ named) e)
         | inr e ↦ inr (subst (λ ns. is_among n ns ≡ true) (sym whole) (among_left n first rest (among_once n [] first e)))
       ];
     }
 
 -- all
-pub published_whole : (s : Server) (w : Workspace) (others unpublished edited : NameList) (old next now : Outgoing) →
+pub published_whole : (s : Server) (w : Workspace) (sites : Sites) (others unpublished edited : NameList) (named : List (List ℕ)) (old next now : Outgoing) →
     (IsKept s.workspace → IsSettled w) → (IsKept s.workspace → AreRead w) → (IsKept s.workspace → AreOthers (names_of others) (reported_of_name s.workspace) (reported_of_name w)) →
-    next ≡ with_all old (messages_in (publisher_of s) w (names_once (names_of others) (due_of s))) →
-    now ≡ with_all next (messages_in (publisher_of s) w (names_once [] (names_of others))) → names_of unpublished ≡ [] → names_of edited ≡ [] →
-    ArePublished s (with_found s w unpublished edited) old now
-published_whole s w others unpublished edited old next now settled read are more sent no_unreported no_edited = record {
+    AreAround named s.sites sites → (IsKept s.workspace → AreFitting w sites) → AreSaid sites → (AreGiven s.sites → HaveOthers sites) →
+    next ≡ with_all old (messages_in (publisher_by s sites) w (names_once (names_of others) (due_of s ++ named))) →
+    now ≡ with_all next (messages_in (publisher_by s sites) w (names_once [] (names_of others))) → names_of unpublished ≡ [] → names_of edited ≡ [] → renewed_of sites ≡ [] →
+    ArePublished s (with_found s w sites unpublished edited) old now
+published_whole s w sites others unpublished edited named old next now settled read are around fits said given more sent no_unreported no_edited no_renewed = record {
   settled = settled;
   read = read;
   others = names_of others;
   are = are;
-  sent = joined s w old next now (names_once (names_of others) (due_of s)) (names_once [] (names_of others)) more sent;
+  named = named;
+  around = around;
+  fits = fits;
+  said = said;
+  given = given;
+  sent = joined (publisher_by s sites) w old next now (names_once (names_of others) (due_of s ++ named)) (names_once [] (names_of others)) more sent;
   unpublished = no_unreported;
   edited = no_edited;
+  renewed = no_renewed;
 }
 
 -- what holds anyhow holds of an error

@@ -1,12 +1,14 @@
 -- What settings of a folder change.
-use Rattle.std.specs.Prelude.{◌≡◌, ◌⊎◌, ◌++◌, ◌&&◌, ◌||◌, ◌==◌, ℕ, List, Bool, false, cond, filter, length, map, not, option_map, string_bytes, Option, None, Some, IfSome}
+use Rattle.std.specs.Prelude.{◌≡◌, ◌⊎◌, ◌++◌, ◌&&◌, ◌||◌, ◌==◌, ℕ, List, [], Bool, false, cond, filter, length, map, not, option_map, string_bytes, Option, None, Some, IfSome}
 use Rattle.std.specs.List.{flat_map}
 use Rattle.std.specs.Str.{bytes_eq}
 use Rattle.tera_workspace.specs.Definitions.{texts_read}
+use Rattle.tera_workspace.specs.SiteValues.{KeptSiteVal, no_site}
 use Rattle.tera_workspace.specs.Workspaces.{reported_of_name}
 use Rattle.tera_workspace.specs.declared.workspace.Workspace.{Workspace}
 use Rattle.tera_server.specs.Sending.{unpublished_of}
-use Rattle.tera_server.specs.Settings.{SettingsVal, file_in, has_list, has_list_if_any, reported_in, settings_in, settings_view}
+use Rattle.tera_server.specs.Settings.{SettingsVal, file_in, finds_more, finds_more_if_any, reported_in, settings_in, settings_view}
+use Rattle.tera_server.specs.Sites.{AreGiven, IsSiteAt, site_in}
 use Rattle.tera_server.specs.States.{Grows, edited_of, needed_of, needs}
 use Rattle.tera_server.specs.Templates.{is_inside}
 use Rattle.tera_server.specs.UnreadFiles.{ReasonVal, reason_view, why_of}
@@ -36,25 +38,35 @@ settings_by found_as.Nothing old = None
 settings_by (found_as.Set file settings why) old = Some (settings_view settings)
 settings_by (found_as.Wrong file why) old = old
 
--- registered names are listed by what was found, or were before; if what was found is wrong, nothing changes
-abbrev pub is_listed_by : FoundSettings → Option SettingsVal → Bool
-is_listed_by found_as.Nothing old = has_list_if_any old
-is_listed_by (found_as.Set file settings why) old = has_list (settings_view settings) || has_list_if_any old
-is_listed_by (found_as.Wrong file why) old = false
+-- more is found by what was found than without settings, or was before; if what was found is wrong, nothing changes
+abbrev pub finds_more_by : FoundSettings → Option SettingsVal → Bool
+finds_more_by found_as.Nothing old = finds_more_if_any old
+finds_more_by (found_as.Set file settings why) old = finds_more (settings_view settings) || finds_more_if_any old
+finds_more_by (found_as.Wrong file why) old = false
 
--- only settings, what is known of files, and what is to be published change; nothing that was to be published is
+-- the site then, by that before; nothing is known of its documents yet
+abbrev pub site_below : Option (List ℕ) → Option KeptSiteVal
+site_below root = option_map (λ r. no_site r []) root
+
+abbrev pub site_by : FoundSettings → Option KeptSiteVal → Option KeptSiteVal
+site_by found_as.Nothing old = None
+site_by (found_as.Set file settings why) old = site_below (settings_view settings).root
+site_by (found_as.Wrong file why) old = old
+
+-- only settings, sites, what is known of files, and what is to be published change; nothing that was to be published is
 -- dropped
 pub record IsUnconfigured (s t : Server) : Type 0 where
-  pub same : t ≡ record s { settings = t.settings; unread = t.unread; edited = t.edited; unpublished = t.unpublished }
+  pub same : t ≡ record s { settings = t.settings; sites = t.sites; unread = t.unread; edited = t.edited; unpublished = t.unpublished }
   pub edited : Grows (edited_of s) (edited_of t)
   pub unpublished : Grows (unpublished_of s) (unpublished_of t)
+  pub given : AreGiven s.sites → AreGiven t.sites
 
 -- The documents in a folder that have findings are to be published, unless the same is reported there as before. If
--- registered names are listed, all its documents are, as other names may be unknown.
+-- more is found by the settings, or was, all its documents are.
 abbrev pub ArePublishedAgain : List ℕ → FoundSettings → Server → Server → Type 0
 ArePublishedAgain folder found s t =
     let old = settings_in s.settings folder in
-    let all = is_listed_by found old in
+    let all = finds_more_by found old in
     ((all ≡ false) × (reported_in (settings_by found old) ≡ reported_in old) × (unpublished_of t ≡ unpublished_of s))
     ⊎ (unpublished_of t ≡ unpublished_of s ++ filter (is_due_inside s.workspace folder all) (map (λ d. d.name) (texts_read s.workspace)))
 
@@ -68,6 +80,8 @@ pub record AreFoundSet (folder : List ℕ) (found : FoundSettings) (s t : Server
 pub record IsConfiguredBy (folder : List ℕ) (found : FoundSettings) (s t : Server) : Type 0 where
   pub rest : IsUnconfigured s t
   pub set : AreFoundSet folder found s t
+  pub site : IsSiteAt folder (site_by found (site_in s.sites folder)) s.sites t.sites
+  pub renewed : t.sites.renewed ≡ s.sites.renewed
   pub published : ArePublishedAgain folder found s t
 
 -- the folders that are open are asked for again

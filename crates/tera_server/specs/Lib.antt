@@ -9,6 +9,7 @@ pub mod Findings
 pub mod Hovers
 pub mod KnownFiles
 pub mod Layouts
+pub mod Naming
 pub mod Notes
 pub mod Outlines
 pub mod Positions
@@ -19,6 +20,7 @@ pub mod Sending
 pub mod Settings
 pub mod Settling
 pub mod Signatures
+pub mod Sites
 pub mod States
 pub mod Steps
 pub mod Templates

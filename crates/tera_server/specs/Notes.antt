@@ -1,5 +1,5 @@
 -- What notifications do.
-use Rattle.std.specs.Prelude.{◌≡◌, ◌++◌, ⊤, if◌then◌else◌, cond, ℕ, List, [], ◌∷◌, Bool, false, codes, map, string_bytes, Option, None, Some}
+use Rattle.std.specs.Prelude.{◌≡◌, ◌≢◌, ◌⊎◌, ◌++◌, ⊤, if◌then◌else◌, cond, ℕ, List, [], ◌∷◌, Bool, false, codes, map, string_bytes, Option, None, Some}
 use Rattle.std.specs.List.{flat_map}
 use Rattle.std.specs.Str.{bytes_eq}
 use Rattle.file_uris.specs.Names.{IsNameOf}
@@ -92,16 +92,26 @@ abbrev pub IsNotedOf : DocumentNote → Option (List ℕ) → Server → Option 
 IsNotedOf note None s params t = IsMissed s t
 IsNotedOf note (Some uri) s params t = (name : List ℕ) × IsNameOf uri name × IsNotedAs note name uri s params t
 
+-- a path without the slash at its end, except that of the root
+abbrev pub IsBare : List ℕ → List ℕ → Type 0
+IsBare path bare =
+    ((path ≡ bare ++ codes "/") × (bare ≢ []))
+    ⊎ ((path ≡ bare) × ((front : List ℕ) → front ≢ [] → path ≢ front ++ codes "/"))
+
+-- the name that a URI gives to a folder, or to a file that changed: a slash at its end does not count
+abbrev pub IsBareNameOf : List ℕ → List ℕ → Type 0
+IsBareNameOf uri bare = (name : List ℕ) × IsNameOf uri name × IsBare name bare
+
 -- the names of these URIs, except what has none
 abbrev pub AreNames : List (Option (List ℕ)) → List (List ℕ) → Type 0
 AreNames [] names = names ≡ []
 AreNames (None ∷ uris) names = AreNames uris names
-AreNames (Some uri ∷ uris) names = (name : List ℕ) × (rest : List (List ℕ)) × IsNameOf uri name × (names ≡ name ∷ rest) × AreNames uris rest
+AreNames (Some uri ∷ uris) names = (name : List ℕ) × (rest : List (List ℕ)) × IsBareNameOf uri name × (names ≡ name ∷ rest) × AreNames uris rest
 
 -- the name of what has this URI is added, if it has one
 abbrev pub AddsName : Option (List ℕ) → List (List ℕ) → List (List ℕ) → Type 0
 AddsName None old now = now ≡ old
-AddsName (Some uri) old now = (name : List ℕ) × IsNameOf uri name × (now ≡ old ++ name ∷ [])
+AddsName (Some uri) old now = (name : List ℕ) × IsBareNameOf uri name × (now ≡ old ++ name ∷ [])
 
 -- the URI of a folder, or of a file that changed
 abbrev pub item_uri : Json → Option (List ℕ)

@@ -6,18 +6,21 @@ use Rattle.json_rpc.specs.Outgoing.{Outgoing}
 use Rattle.json_rpc.specs.Writing.{body}
 use Rattle.tera_workspace.specs.Diagnostics.{DiagnosticVal}
 use Rattle.tera_workspace.specs.Names.{is_among}
+use Rattle.tera_workspace.specs.Sites.{named_of_name}
 use Rattle.tera_workspace.specs.Unregistered.{unknown_of_name}
 use Rattle.tera_workspace.specs.Workspaces.{reported_of_name}
 use Rattle.tera_workspace.specs.declared.workspace.Workspace.{Workspace}
 use Rattle.tera_server.specs.Editors.{state_of}
 use Rattle.tera_server.specs.Findings.{published}
 use Rattle.tera_server.specs.Settings.{listing_for, registered_in, reported_for, shown_in}
+use Rattle.tera_server.specs.Sites.{site_for}
 use Rattle.tera_server.specs.declared.editor.Editor.{Editor}
 use Rattle.tera_server.specs.declared.editor.DocumentState.{DocumentState}
 use Rattle.tera_server.specs.declared.editor.DocumentState.TheVariants.{Open, Lost, Closed}
 use Rattle.tera_server.specs.declared.findings.Publishing.{Publishing}
 use Rattle.tera_server.specs.declared.server.Server.{Server}
 use Rattle.tera_server.specs.declared.settings.Settings.{Settings}
+use Rattle.tera_server.specs.declared.sites.Sites.{Sites}
 use Rattle.tera_server.specs.declared.unread.UnreadFiles.{UnreadFiles}
 use Rattle.tera_server.specs.UnreadFiles.{why_of}
 
@@ -26,12 +29,13 @@ abbrev pub with_all : Outgoing → List (List ℕ) → Outgoing
 with_all o messages = record { sent = o.sent ++ messages; reserved = o.reserved }
 
 -- what messages depend on: what the editor has, which files cannot be read, whether the notes of a finding are sent,
--- the settings, and the folders that are open
+-- the settings, the sites by which names are judged, and the folders that are open
 pub record Publisher : Type 0 where
   pub editor : Editor
   pub unread : UnreadFiles
   pub related : Bool
   pub settings : Settings
+  pub sites : Sites
   pub folders : List (List ℕ)
 
 abbrev pub publisher : Publishing → Publisher
@@ -40,6 +44,7 @@ publisher p = record {
   unread = p.unread.now;
   related = p.related;
   settings = p.settings.now;
+  sites = p.sites.now;
   folders = map string_bytes p.folders.now;
 }
 
@@ -49,6 +54,7 @@ publisher_of s = record {
   unread = s.unread;
   related = s.client.related;
   settings = s.settings;
+  sites = s.sites;
   folders = map string_bytes s.folders.items;
 }
 
@@ -56,10 +62,14 @@ publisher_of s = record {
 abbrev pub unknown_for : Publisher → Workspace → List ℕ → List DiagnosticVal
 unknown_for p w n = option_map_or (λ settings. unknown_of_name w (registered_in settings) n) (listing_for p.settings p.folders n) []
 
+-- the findings on names of templates in it, if there is a site for it
+abbrev pub named_for : Publisher → Workspace → List ℕ → List DiagnosticVal
+named_for p w n = option_map_or (λ site. named_of_name w site n) (site_for p.sites p.folders n) []
+
 -- what was reported last for the document of a name, and these, as far as they are on by the settings, with the
 -- severities of their rules
 abbrev pub shown_of : Publisher → Workspace → List ℕ → List DiagnosticVal
-shown_of p w n = shown_in (reported_for p.settings p.folders n) (reported_of_name w n ++ unknown_for p w n)
+shown_of p w n = shown_in (reported_for p.settings p.folders n) (reported_of_name w n ++ (unknown_for p w n ++ named_for p w n))
 
 -- what is published for the document of a name: why its file cannot be read, or is wrong, and its findings
 unfoldable pub found_message : Publisher → Workspace → List ℕ → List ℕ

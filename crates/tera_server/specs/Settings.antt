@@ -32,14 +32,15 @@ abbrev pub level_view : RuleLevel → RuleVal
 level_view r = (r.rule.now, r.level)
 
 -- how the names of templates end, if not as usual; what is left out; libraries; whether templates have other markers;
--- what rules are set to; and the names of filters, tests and functions that the program registers, as far as they are
--- known
+-- what rules are set to; the root of the names of templates, if there is one; and the names of filters, tests and
+-- functions that the program registers, as far as they are known
 pub record SettingsVal : Type 0 where
   pub extensions : Option (List (List ℕ))
   pub exclude : List (List ℕ)
   pub libraries : List (List ℕ)
   pub other_markers : Bool
   pub rules : List RuleVal
+  pub root : Option (List ℕ)
   pub filters : Option (List (List ℕ))
   pub tests : Option (List (List ℕ))
   pub functions : Option (List (List ℕ))
@@ -57,6 +58,7 @@ settings_view s = record {
   libraries = map string_bytes s.libraries.items;
   other_markers = s.other_markers;
   rules = map rule_view s.rules.items;
+  root = option_map string_bytes s.root;
   filters = list_in s.filters;
   tests = list_in s.tests;
   functions = list_in s.functions;
@@ -107,9 +109,13 @@ registered_for s folders file = registered_by (settings_for s folders file)
 abbrev pub has_list : SettingsVal → Bool
 has_list settings = is_some settings.filters || is_some settings.tests || is_some settings.functions
 
-abbrev pub has_list_if_any : Option SettingsVal → Bool
-has_list_if_any None = false
-has_list_if_any (Some settings) = has_list settings
+-- more is found by them than is reported without: they list some, or names of templates are known
+abbrev pub finds_more : SettingsVal → Bool
+finds_more settings = has_list settings || is_some settings.root
+
+abbrev pub finds_more_if_any : Option SettingsVal → Bool
+finds_more_if_any None = false
+finds_more_if_any (Some settings) = finds_more settings
 
 abbrev pub if_listing : SettingsVal → Option SettingsVal
 if_listing settings = if has_list settings then Some settings else None

@@ -15,7 +15,7 @@ use Rattle.tera_server.specs.declared.editor.DocumentState.TheVariants.{Open, Lo
 use Rattle.tera_server.specs.declared.notes.NeededKind.{NeededKind}
 use Rattle.tera_server.specs.declared.notes.NeededKind.TheVariants as kinds
 use Rattle.tera_server.specs.KnownFiles.{is_known}
-use Rattle.tera_server.specs.Settings.{has_list_if_any, settings_for}
+use Rattle.tera_server.specs.Settings.{finds_more_if_any, settings_for}
 use Rattle.tera_server.specs.UnreadFiles.{ReasonVal, is_same, unread, why_of, IsWhyAt}
 use Rattle.tera_server.specs.declared.server.OnDisk.{OnDisk}
 use Rattle.tera_server.specs.declared.server.OnDisk.TheVariants as on_disk
@@ -131,16 +131,16 @@ is_there on_disk.Nothing = false
 abbrev pub edited_by : List ℕ → Option ReasonVal → Server → List (List ℕ)
 edited_by path why s = if option_eq is_same (why_of s.unread path) why then edited_of s else with_name path (edited_of s)
 
--- .. If the settings for it list registered names, it is always among them, as something else may be unknown in it. Its
--- name may be there twice then.
-abbrev pub lists_for : Server → List ℕ → Bool
-lists_for s path = has_list_if_any (settings_for s.settings (map string_bytes s.folders.items) path)
+-- .. If more is found by the settings for it than without settings, it is always among them, as something else may be
+-- found in it. Its name may be there twice then.
+abbrev pub finds_more_for : Server → List ℕ → Bool
+finds_more_for s path = finds_more_if_any (settings_for s.settings (map string_bytes s.folders.items) path)
 
 abbrev pub edited_with : List ℕ → Option ReasonVal → Server → List (List ℕ)
-edited_with path why s = if lists_for s path then edited_of s ++ path ∷ [] else edited_by path why s
+edited_with path why s = if finds_more_for s path then edited_of s ++ path ∷ [] else edited_by path why s
 
 abbrev pub edited_more : List ℕ → Server → List (List ℕ)
-edited_more path s = if lists_for s path then edited_of s ++ path ∷ [] else with_name path (edited_of s)
+edited_more path s = if finds_more_for s path then edited_of s ++ path ∷ [] else with_name path (edited_of s)
 
 -- this text is on disk under a path, or none is; and this is why the file there cannot be read, or it can be
 pub record IsLoadedAs (path : List ℕ) (text : Option (List ℕ)) (why : Option ReasonVal) (s t : Server) : Type 0 where
@@ -190,6 +190,7 @@ pub record StaysBut (s t : Server) : Type 0 where
   pub known : t.known ≡ s.known
   pub unread : t.unread ≡ s.unread
   pub settings : t.settings ≡ s.settings
+  pub sites : t.sites ≡ s.sites
   pub encoding : t.workspace.encoding ≡ s.workspace.encoding
   pub unpublished : t.unpublished ≡ s.unpublished
   pub reported : (n : List ℕ) → reported_of_name t.workspace n ≡ reported_of_name s.workspace n

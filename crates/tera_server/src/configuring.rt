@@ -3,9 +3,10 @@
 ghost use Rattle.std.specs.Prelude.{◌≡◌, ◌++◌, false, true, map, string_bytes, IfOk, OnOk, OnErr};
 ghost use Rattle.std.specs.List.{filter, flat_map};
 ghost use Rattle.tera_workspace.specs.Definitions.{texts_read};
-ghost use Rattle.tera_server.specs.Configuring.{AreFoundSet, ArePublishedAgain, IsConfiguredBy, IsUnconfigured, is_due_inside, is_listed_by, settings_by};
+ghost use Rattle.tera_server.specs.Configuring.{AreFoundSet, ArePublishedAgain, IsConfiguredBy, IsUnconfigured, finds_more_by, is_due_inside, settings_by, site_below, site_by};
 ghost use Rattle.tera_server.specs.Sending.{unpublished_of};
 ghost use Rattle.tera_server.specs.Settings.{is_in_library, reported_in, settings_for, settings_in, settings_view};
+ghost use Rattle.tera_server.specs.Sites.{AreGiven, IsSiteAt, site_in};
 ghost use Rattle.tera_server.specs.States.{Grows, edited_of, needed_of, needs};
 ghost use Rattle.tera_server.specs.UnreadFiles.{reason_view, why_of};
 ghost use Rattle.tera_server.specs.declared.configuring.FoundSettings.TheVariants as found_as;
@@ -42,8 +43,8 @@ impl Server {
     }
 
     /// Sets what was found for the folder. If other findings are reported in it by that, because of other rules or
-    /// markers, its documents are published again; if a list of registered names is or was there, all its documents
-    /// are. After an allocation failure a part of this may be done.
+    /// markers, its documents are published again; if more is found by the settings, or was, all its documents are.
+    /// After an allocation failure a part of this may be done.
     pub fn configure(
         &mut self,
         alloc: Global,
@@ -54,6 +55,7 @@ impl Server {
         ensures err { OnErr result (IsUnconfigured self.old self.new) }
     {
         self.publish_if_others(alloc, folder, &found)?;
+        self.set_site(alloc, folder, &found)?;
         self.forget_file(alloc, folder)?;
         self.set_found(alloc, folder, found)
     }
@@ -93,20 +95,20 @@ impl Server {
         }
     }
 
-    // Whether the settings that were found, or those before, list names that the program registers.
-    fn is_listed(&self, folder: &str, found: &FoundSettings) -> bool
-        ensures { result ≡ is_listed_by found.now (settings_in self.now.settings folder.now) }
+    // Whether more is found by these settings than without settings, or was before.
+    fn finds_more(&self, folder: &str, found: &FoundSettings) -> bool
+        ensures { result ≡ finds_more_by found.now (settings_in self.now.settings folder.now) }
     {
         match found {
-            FoundSettings::Nothing => self.settings.lists_in(folder),
+            FoundSettings::Nothing => self.settings.finds_more_in(folder),
             FoundSettings::Set(_, settings, _) => {
-                settings.has_list() || self.settings.lists_in(folder)
+                settings.finds_more() || self.settings.finds_more_in(folder)
             }
             FoundSettings::Wrong(_, _) => false,
         }
     }
 
-    // Whether nothing has to be published again, with what was found. `all` says that registered names are listed.
+    // Whether nothing has to be published again, with what was found. `all` says that more is found by the settings.
     fn keeps_published(&self, folder: &str, found: &FoundSettings, all: bool) -> bool
         ensures { let old = settings_in self.now.settings folder.now in
             result ≡ true → (all ≡ false) × (reported_in (settings_by found.now old) ≡ reported_in old) }
@@ -118,7 +120,7 @@ impl Server {
     }
 
     // If something else is reported than before, the files in the folder that have findings are to be published; if
-    // registered names are listed, all its files are.
+    // more is found by the settings, all its files are.
     fn publish_if_others(
         &mut self,
         alloc: Global,
@@ -129,7 +131,7 @@ impl Server {
         ensures published { OnOk result (ArePublishedAgain folder.now found.now self.old self.new) }
         ensures grows { Grows (unpublished_of self.old) (unpublished_of self.new) }
     {
-        let all = self.is_listed(folder, found);
+        let all = self.finds_more(folder, found);
         if self.keeps_published(folder, found, all) {
             Ok(())
         } else {
@@ -147,6 +149,50 @@ impl Server {
         let mut names = due_inside(alloc, &self.workspace, folder, all)?;
         self.unpublished.append(&mut names)?;
         Ok(())
+    }
+
+    // Sets the site of the folder: the one below the root that was found, if there is one.
+    fn set_site(
+        &mut self,
+        alloc: Global,
+        folder: &str,
+        found: &FoundSettings,
+    ) -> Result<(), AllocError>
+        ensures same { self.new ≡ record self.old { sites = self.new.sites } }
+        ensures set { OnOk result (IsSiteAt folder.now
+            (site_by found.now (site_in self.old.sites folder.now)) self.old.sites self.new.sites) }
+        ensures given { AreGiven self.old.sites → AreGiven self.new.sites }
+        ensures renewed { self.new.sites.renewed ≡ self.old.sites.renewed }
+    {
+        match found {
+            FoundSettings::Nothing => {
+                self.sites.remove(folder);
+                Ok(())
+            }
+            FoundSettings::Set(_, settings, _) => self.set_root(alloc, folder, settings),
+            FoundSettings::Wrong(_, _) => Ok(()),
+        }
+    }
+
+    fn set_root(
+        &mut self,
+        alloc: Global,
+        folder: &str,
+        settings: &FolderSettings,
+    ) -> Result<(), AllocError>
+        ensures same { self.new ≡ record self.old { sites = self.new.sites } }
+        ensures set { OnOk result (IsSiteAt folder.now
+            (site_below (settings_view settings.now).root) self.old.sites self.new.sites) }
+        ensures given { AreGiven self.old.sites → AreGiven self.new.sites }
+        ensures renewed { self.new.sites.renewed ≡ self.old.sites.renewed }
+    {
+        match &settings.root {
+            Some(root) => self.sites.set(alloc, folder, root.as_str()),
+            None => {
+                self.sites.remove(folder);
+                Ok(())
+            }
+        }
     }
 
     // Forgets what is wrong in the file of settings of the folder, unless it counts for another folder too.

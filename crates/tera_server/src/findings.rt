@@ -9,12 +9,13 @@ ghost use Rattle.tera_workspace.specs.Names.{contains_name, is_among};
 ghost use Rattle.tera_workspace.specs.Unregistered.{unknown_of_name};
 ghost use Rattle.tera_server.specs.Editors.{seen_of, uri_in, version_in};
 ghost use Rattle.tera_server.specs.Findings.{one_related, related_tokens, one_found, found_if_on, found_json, reason_code, reason_tokens, version_tokens};
-ghost use Rattle.tera_server.specs.Sending.{with_all, messages_in, publisher, SendsFirst, names_once, unknown_for};
+ghost use Rattle.tera_server.specs.Sending.{with_all, messages_in, publisher, SendsFirst, named_for, names_once, unknown_for};
 ghost use Rattle.tera_server.specs.Settings.{registered_in, reported_for, reported_view, settings_view, shown_in};
 ghost use Rattle.tera_server.specs.UnreadFiles.{reason_view, severity_number, why_of};
 
 use crate::editor::{DocumentState, Editor};
 use crate::settings::{FolderSettings, Reported, Settings};
+use crate::sites::Sites;
 use crate::unread::{Reason, UnreadFiles};
 use file_uris::uri_of;
 use json::{Token, Writer};
@@ -37,6 +38,8 @@ pub(crate) struct Publishing<'e> {
     pub(crate) related: bool,
     /// What rules are set to, and what the program registers, by the folders that are open.
     pub(crate) settings: &'e Settings,
+    /// By what names of templates are judged.
+    pub(crate) sites: &'e Sites,
     pub(crate) folders: &'e [String],
 }
 
@@ -91,6 +94,7 @@ fn publish(
     match publishing.editor.state(name) {
         DocumentState::Open | DocumentState::Closed => {
             let unknown = unknown_in(alloc, publishing, workspace, name)?;
+            let named = named_in(alloc, publishing, workspace, name)?;
             let mut message = begin_notification(alloc, "textDocument/publishDiagnostics")?;
             put_published(
                 alloc,
@@ -99,6 +103,7 @@ fn publish(
                 name,
                 workspace.reported(name),
                 unknown.as_slice(),
+                named.as_slice(),
             )?;
             out.push(end_message(message)?)
         }
@@ -135,7 +140,23 @@ fn unknown_by(
     workspace.unknown_of(alloc, name, &registered)
 }
 
-// Writes what was reported for the document, and what is not registered in it.
+// The findings on names of templates in the document, if there is a site for it.
+fn named_in(
+    alloc: Global,
+    publishing: Publishing<'_>,
+    workspace: &Workspace,
+    name: &str,
+) -> Result<Vec<Diagnostic>, AllocError>
+    ensures { IfOk result (λ v. map diagnostic_view v.items
+        ≡ named_for (publisher publishing.entry) workspace.now name.now) }
+{
+    match publishing.sites.of(publishing.folders, name) {
+        Some(site) => workspace.named_of(alloc, name, site),
+        None => Ok(Vec::new(alloc)),
+    }
+}
+
+// Writes what was reported for the document, what is not registered in it, and the findings on names of templates.
 fn put_published(
     alloc: Global,
     out: &mut Writer,
@@ -143,13 +164,14 @@ fn put_published(
     name: &str,
     found: &[Diagnostic],
     unknown: &[Diagnostic],
+    named: &[Diagnostic],
 ) -> Result<(), AllocError>
     ensures { PutsJson result out.old out.new
         (found_json publishing.entry.editor.now publishing.entry.related name.now
         (why_of publishing.entry.unread.now name.now)
         (shown_in (reported_for publishing.entry.settings.now
         (map string_bytes publishing.entry.folders.now) name.now)
-        (map diagnostic_view found.now ++ map diagnostic_view unknown.now))) }
+        (map diagnostic_view found.now ++ (map diagnostic_view unknown.now ++ map diagnostic_view named.now)))) }
 {
     let uri = uri_by(alloc, publishing.editor, name)?;
     put_tokens(
@@ -166,6 +188,7 @@ fn put_published(
     let reported = publishing.settings.reported(publishing.folders, name);
     put_found(alloc, out, publishing, reported, found)?;
     put_found(alloc, out, publishing, reported, unknown)?;
+    put_found(alloc, out, publishing, reported, named)?;
     put_tokens(out, &[Token::EndArray, Token::EndObject])
 }
 

@@ -9,6 +9,7 @@
 //! In the order of reading: specs `States`, `Requests`, `Notes`, `Steps`, `Settling`; `server`, and the two kinds of
 //! messages, `requests` and `notes`; `client` and `editor`, what is known of them; `known` and `unread`, files that
 //! exist, or cannot be read; `templates`, which files have which names; `settings` and `configuring`, by folders;
+//! `sites` and `naming`, templates by their names below a root;
 //! `abilities`, `layouts`, `symbols`, `definitions`, `hovers`, `references`, `completions`, `signatures`,
 //! `semantic_tokens` and `actions`, which write results; `findings`, which publishes what is found; `laws`.
 #![tactic(auto)]
@@ -25,6 +26,7 @@ mod hovers;
 mod known;
 pub mod laws;
 mod layouts;
+mod naming;
 mod notes;
 mod references;
 mod requests;
@@ -32,6 +34,7 @@ mod semantic_tokens;
 mod server;
 mod settings;
 mod signatures;
+mod sites;
 mod symbols;
 mod templates;
 mod unread;
@@ -40,4 +43,5 @@ pub use abilities::VERSION;
 pub use configuring::FoundSettings;
 pub use server::{Ended, Needed, OnDisk, Server};
 pub use settings::{FolderSettings, RuleSetting};
+pub use sites::UsedName;
 pub use unread::Reason;

@@ -13,7 +13,7 @@ ghost use Rattle.protocol_values.specs.Members.{seen, member_of, text_in, items_
 ghost use Rattle.protocol_values.specs.Reading.{changes_in};
 ghost use Rattle.tera_server.specs.Abilities.{registrations_json};
 ghost use Rattle.tera_workspace.specs.Workspaces.{IsKept};
-ghost use Rattle.tera_server.specs.Notes.{noted_of, document_in, uri_given, item_uri, version_of, AreNames, AddsName, IsOpened, IsChanged, IsClosed, IsNotedBy, IsNoted, AreFoldersChanged, IsHeldAside, IsHeldBut, watch_requests, sent_by, Texts};
+ghost use Rattle.tera_server.specs.Notes.{noted_of, document_in, uri_given, item_uri, version_of, AreNames, AddsName, IsBare, IsOpened, IsChanged, IsClosed, IsNotedBy, IsNoted, AreFoldersChanged, IsHeldAside, IsHeldBut, watch_requests, sent_by, Texts};
 ghost use Rattle.tera_server.specs.Sending.{with_all};
 ghost use Rattle.tera_server.specs.States.{takes, is_whole, needed_view, needs, with_name, names_without, Grows, KeepsDue, StaysBut};
 ghost use Rattle.tera_server.specs.Steps.{EditsIn, Follows};
@@ -368,7 +368,7 @@ pub(crate) fn names_in(alloc: Global, items: &[Value<'_>]) -> Result<Vec<String>
     Ok(names)
 }
 
-/// Adds the name of what has this URI, if it has one.
+/// Adds the name of what has this URI, if it has one. A slash at its end does not count.
 pub(crate) fn push_name(
     alloc: Global,
     uri: Option<&str>,
@@ -378,9 +378,20 @@ pub(crate) fn push_name(
         (map string_bytes names.old.items) (map string_bytes names.new.items)) }
 {
     if let Some(uri) = uri {
-        names.push(name_of(alloc, uri)?)?;
+        let name = name_of(alloc, uri)?;
+        names.push(String::from_str(alloc, bare(name.as_str()))?)?;
     }
     Ok(())
+}
+
+// The path without the slash at its end. That of the root stays.
+fn bare(path: &str) -> &str
+    ensures { IsBare path.now result.now }
+{
+    match path.strip_suffix('/') {
+        Some(bare) if !bare.is_empty() => bare,
+        _ => path,
+    }
 }
 
 /// Asks for what has these names.

@@ -13,11 +13,12 @@ ghost use Rattle.tera_workspace.specs.Workspaces.{reported_of_name, IsKept};
 ghost use Rattle.text_edits.specs.Documents.{no_document};
 ghost use Rattle.tera_server.specs.Sending.{unpublished_of};
 ghost use Rattle.tera_server.specs.Settling.{IsSettling, ArePublishedInPart, OnlyReports};
-ghost use Rattle.tera_server.specs.States.{IsMissed, IsLoadedAs, IsNotLoaded, known_of, text_on, why_on, is_there, needed_of, needed_view, edited_of, edited_by, edited_more, edited_with, lists_for, with_name, KeepsReported, StaysBut};
+ghost use Rattle.tera_server.specs.States.{IsMissed, IsLoadedAs, IsNotLoaded, known_of, text_on, why_on, is_there, needed_of, needed_view, edited_of, edited_by, edited_more, edited_with, finds_more_for, with_name, KeepsReported, StaysBut};
 ghost use Rattle.tera_server.specs.Steps.{ended_at, Step, IsRefused, IsUntaken, IsUntakenBy, KeepsUp};
 ghost use Rattle.tera_server.specs.KnownFiles.{is_known, known_names, IsKnownAs};
 ghost use Rattle.tera_server.specs.Templates.{is_inside};
 ghost use Rattle.tera_server.specs.Settings.{settings_in};
+ghost use Rattle.tera_server.specs.Sites.{AreGiven, renewed_of, site_in};
 ghost use Rattle.tera_server.specs.UnreadFiles.{reason_view, why_of, IsWhyAt};
 ghost use Rattle.tera_server.specs.declared.server.Phase.TheVariants.{New};
 
@@ -28,6 +29,7 @@ use crate::known::KnownFiles;
 use crate::notes::{Noted, add_name};
 use crate::requests::Asked;
 use crate::settings::Settings;
+use crate::sites::Sites;
 use crate::unread::{Reason, UnreadFiles};
 use json::Scratch;
 use json_rpc::{Code, Id, Incoming, Message, Outbox, id_to_answer};
@@ -86,6 +88,8 @@ pub struct Server {
     pub(crate) unread: UnreadFiles,
     // The settings of the folders.
     pub(crate) settings: Settings,
+    // The templates below the roots that these name.
+    pub(crate) sites: Sites,
     pub(crate) needed: Vec<Needed>,
     // The names of the documents whose findings are to be published, even if they are the same as before: the editor
     // opened, changed or closed the document, its file cannot be read or can be read again, or it was not published in
@@ -105,6 +109,8 @@ impl Server {
         ensures none { (needed_of result ≡ []) × (edited_of result ≡ []) × (unpublished_of result ≡ [])
             × ((n : List ℕ) → why_of result.unread n ≡ None) × ((n : List ℕ) → is_known result.known n ≡ false) }
         ensures settings { (f : List ℕ) → settings_in result.settings f ≡ None }
+        ensures sites { ((f : List ℕ) → site_in result.sites f ≡ None) × (renewed_of result.sites ≡ [])
+            × AreGiven result.sites }
     {
         Server {
             phase: Phase::New,
@@ -115,6 +121,7 @@ impl Server {
             known: KnownFiles::new(alloc),
             unread: UnreadFiles::new(alloc),
             settings: Settings::new(alloc),
+            sites: Sites::new(alloc),
             needed: Vec::new(alloc),
             edited: Vec::new(alloc),
             unpublished: Vec::new(alloc),
@@ -340,8 +347,8 @@ impl Server {
         self.workspace.remove_file(alloc, path)
     }
 
-    // Sets why a file cannot be read; `None` if it can be. It is published as in `set_why`, and also if registered
-    // names are listed, as something else may be unknown in it.
+    // Sets why a file cannot be read; `None` if it can be. It is published as in `set_why`, and also if more is found
+    // by the settings than without settings, as something else may be found in it.
     fn set_why_of(
         &mut self,
         alloc: Global,
@@ -356,18 +363,18 @@ impl Server {
         ensures unedited { OnErr result ((edited_of self.new ≡ edited_of self.old)
             ⊎ (edited_of self.new ≡ edited_more path.now self.old)) }
     {
-        if self.lists_for(path) {
+        if self.finds_more_for(path) {
             self.set_why_anyhow(alloc, path, why)
         } else {
             self.set_why(alloc, path, why)
         }
     }
 
-    // Whether the settings for the file list names that the program registers.
-    fn lists_for(&self, path: &str) -> bool
-        ensures { result ≡ lists_for self.now path.now }
+    // Whether more is found by the settings for the file than without settings.
+    fn finds_more_for(&self, path: &str) -> bool
+        ensures { result ≡ finds_more_for self.now path.now }
     {
-        self.settings.lists_for(self.folders.as_slice(), path)
+        self.settings.finds_more_for(self.folders.as_slice(), path)
     }
 
     // The same as `set_why`, but the file is always published. Its name is not looked for among those that are due,
@@ -413,7 +420,8 @@ impl Server {
     }
 
     /// Publishes what is found in the current texts, if it differs from what was published, or if the version does.
-    /// After an allocation failure the rest is published the next time.
+    /// A name that no template has counts as that of a file, unless `set_presence` said that there is none. After an
+    /// allocation failure the rest is published the next time.
     pub fn settle(&mut self, alloc: Global, out: &mut Outbox) -> Result<(), AllocError>
         ensures settled { OnOk result (IsSettling self.old.phase self.old self.new out.old out.new) }
         ensures unsettled { OnErr result (ArePublishedInPart self.old self.new out.old out.new) }
@@ -425,12 +433,14 @@ impl Server {
         // What was not published yet is published with what is reported now.
         self.edited.append(&mut self.unpublished)?;
         self.unpublished = self.workspace.settle(alloc)?;
+        self.sites.renew(alloc, &self.workspace, &mut self.edited)?;
         let folders = self.folders.as_slice();
         let publishing = Publishing {
             editor: &self.editor,
             unread: &self.unread,
             related: self.client.related,
             settings: &self.settings,
+            sites: &self.sites,
             folders,
         };
         // The documents in `unpublished` are published after these.

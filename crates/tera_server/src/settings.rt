@@ -25,6 +25,9 @@ pub struct FolderSettings {
     pub other_markers: bool,
     /// What rules are set to. All others have the level [`Kind::default_level`].
     pub rules: Vec<RuleSetting>,
+    /// The folder below which templates have their names, by the path by which its files are given. Without one nothing is
+    /// found of names.
+    pub root: Option<String>,
     /// The names of the filters that the program registers, if they are known.
     pub filters: Option<Vec<String>>,
     /// The names of the tests that it registers.
@@ -49,6 +52,13 @@ impl FolderSettings {
         ensures { result ≡ specs.has_list (settings_view self.now) }
     {
         is_list(&self.filters) || is_list(&self.tests) || is_list(&self.functions)
+    }
+
+    /// Whether more is found by them than is reported without: they list something, or names are known.
+    pub(crate) fn finds_more(&self) -> bool
+        ensures { result ≡ specs.finds_more (settings_view self.now) }
+    {
+        self.has_list() || self.root.is_some()
     }
 
     /// What the program registers, by their lists.
@@ -173,23 +183,23 @@ impl Settings {
         }
     }
 
-    /// Whether the settings for a file list names that the program registers.
-    pub(crate) fn lists_for(&self, folders: &[String], file: &str) -> bool
-        ensures { result ≡ specs.has_list_if_any
+    /// Whether more is found by the settings for a file than without settings.
+    pub(crate) fn finds_more_for(&self, folders: &[String], file: &str) -> bool
+        ensures { result ≡ specs.finds_more_if_any
             (specs.settings_for self.now (map string_bytes folders.now) file.now) }
     {
         match self.of(folders, file) {
-            Some(settings) => settings.has_list(),
+            Some(settings) => settings.finds_more(),
             None => false,
         }
     }
 
-    /// Whether the settings of a folder list names that the program registers.
-    pub(crate) fn lists_in(&self, folder: &str) -> bool
-        ensures { result ≡ specs.has_list_if_any (settings_in self.now folder.now) }
+    /// Whether more is found by the settings of a folder than without settings.
+    pub(crate) fn finds_more_in(&self, folder: &str) -> bool
+        ensures { result ≡ specs.finds_more_if_any (settings_in self.now folder.now) }
     {
         match self.of_folders.get(folder) {
-            Some(settings) => settings.has_list(),
+            Some(settings) => settings.finds_more(),
             None => false,
         }
     }
@@ -296,7 +306,7 @@ fn names_in(list: &Option<Vec<String>>) -> &[String]
 }
 
 /// The first of the folders that is the path, or contains it at any depth.
-fn folder_of<'f>(folders: &'f [String], path: &str) -> Option<&'f str>
+pub(crate) fn folder_of<'f>(folders: &'f [String], path: &str) -> Option<&'f str>
     ensures { option_map (λ f. f.now) result ≡ specs.folder_of (map string_bytes folders.now) path.now }
 {
     for folder in folders {

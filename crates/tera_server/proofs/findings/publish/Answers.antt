@@ -22,7 +22,9 @@ returns-in_ok-end_message-in-Open-clause-published c =
       c.in_ok-message-in-Open.ensures.tokens,
       c.reported.ensures,
       c.as_slice.ensures.value,
+      c.as_slice-in-Open.ensures.value,
       c.in_ok-unknown-in-Open.ensures,
+      c.in_ok-named-in-Open.ensures,
     )
     (simp append_assoc refl) in
     and_so c.push.result c.push.ensures.ok

@@ -18,19 +18,23 @@ returns c =
     let shown = reported_for c.args.publishing.settings.now (map string_bytes c.args.publishing.folders.now) name in
     let found = map diagnostic_view c.args.found.now in
     let unknown = map diagnostic_view c.args.unknown.now in
-    let ds = shown_in shown (found ++ unknown) in
+    let named = map diagnostic_view c.args.named.now in
+    let all = found ++ (unknown ++ named) in
+    let ds = shown_in shown all in
     let old = c.args.out.now.tokens in
     let start = c.put_reason.new.out.tokens in
     let one = found_if_on e reported (reported_view c.reported-reported.result) in
-    let both : c.put_found-2.new.out.tokens ≡ start ++ flat_map one (found ++ unknown) =
-    c.in_ok-put_found-2.ensures.tokens
-    ∙ ap (λ ts. ts ++ flat_map one unknown) c.in_ok-put_found.ensures.tokens
-    ∙ append_assoc start (flat_map one found) (flat_map one unknown)
-    ∙ ap (λ ts. start ++ ts) (sym (flat_map-append one found unknown)) in
-    let each : c.put_found-2.new.out.tokens ≡ start ++ flat_map (one_found e reported) ds =
+    let tokens = flat_map one in
+    let both : c.put_found-3.new.out.tokens ≡ start ++ tokens all =
+    c.in_ok-put_found-3.ensures.tokens
+    ∙ ap (λ ts. ts ++ tokens named) (c.in_ok-put_found-2.ensures.tokens ∙ ap (λ ts. ts ++ tokens unknown) c.in_ok-put_found.ensures.tokens)
+    ∙ append_assoc (start ++ tokens found) (tokens unknown) (tokens named)
+    ∙ append_assoc start (tokens found) (tokens unknown ++ tokens named)
+    ∙ ap (λ ts. start ++ ts) (ap (λ ts. tokens found ++ ts) (sym (flat_map-append one unknown named)) ∙ sym (flat_map-append one found (unknown ++ named))) in
+    let each : c.put_found-3.new.out.tokens ≡ start ++ flat_map (one_found e reported) ds =
     both
-    ∙ ap (λ rules. start ++ flat_map (found_if_on e reported rules) (found ++ unknown)) c.reported-reported.ensures
-    ∙ ap (λ ts. start ++ ts) (on_written e reported shown (found ++ unknown)) in
+    ∙ ap (λ rules. start ++ flat_map (found_if_on e reported rules) all) c.reported-reported.ensures
+    ∙ ap (λ ts. start ++ ts) (on_written e reported shown all) in
     record {
       tokens =
           and_so c.put_tokens-3.result c.put_tokens-3.ensures.tokens
@@ -39,5 +43,5 @@ returns c =
           rw (h, each, c.in_ok-put_reason.ensures.tokens, c.of.ensures, c.in_ok-put_tokens-2.ensures.tokens, c.in_ok-put_version.ensures.tokens, c.in_ok-put_tokens.ensures.tokens, c.as_str.ensures.value, c.in_ok-uri.ensures)
           (simp append_assoc refl) in
           written ∙ ap (λ ts. old ++ ts) (sym (found_written e reported name why ds)));
-      before = c.put_tokens-3.ensures.before ∙ c.in_ok-put_found-2.ensures.before ∙ c.in_ok-put_found.ensures.before ∙ c.in_ok-put_reason.ensures.before ∙ c.in_ok-put_tokens-2.ensures.before ∙ c.in_ok-put_version.ensures.before ∙ c.in_ok-put_tokens.ensures.before;
+      before = c.put_tokens-3.ensures.before ∙ c.in_ok-put_found-3.ensures.before ∙ c.in_ok-put_found-2.ensures.before ∙ c.in_ok-put_found.ensures.before ∙ c.in_ok-put_reason.ensures.before ∙ c.in_ok-put_tokens-2.ensures.before ∙ c.in_ok-put_version.ensures.before ∙ c.in_ok-put_tokens.ensures.before;
     }

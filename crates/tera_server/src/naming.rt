@@ -1,0 +1,52 @@
+//! The names of templates, by the sites of the folders that are open.
+
+ghost use Rattle.std.specs.Prelude.{◌≡◌, [], map, IfOk, OnOk};
+ghost use Rattle.tera_server.specs.Naming.{AreNamesRead, IsPresenceSaid, OnlyNames};
+ghost use Rattle.tera_server.specs.Sites.{AreAround, AreDueAgain, due_of_sites, used_view};
+
+use crate::server::Server;
+use crate::sites::UsedName;
+use std::alloc::{AllocError, Global};
+
+impl Server {
+    /// Reads the documents that changed, and finds again what is around the templates below roots. Then `due_names` has
+    /// the names of which it is to be asked whether there is a file. After an allocation failure a part of that may be
+    /// done.
+    pub fn read_names(&mut self, alloc: Global) -> Result<(), AllocError>
+        ensures only { OnlyNames self.old self.new }
+        ensures read { OnOk result (AreNamesRead self.old self.new) }
+    {
+        self.workspace.read(alloc)?;
+        self.sites.renew(alloc, &self.workspace, &mut self.edited)
+    }
+
+    /// The names that templates use and none has, of which it is not known whether there is a file.
+    pub fn due_names(&self, alloc: Global) -> Result<Vec<UsedName>, AllocError>
+        ensures { IfOk result (λ v. map used_view v.items ≡ due_of_sites self.now.sites) }
+    {
+        self.sites.due(alloc)
+    }
+
+    /// There may be a file of this name below the root, or there is none. As long as that is not said, there may be.
+    pub fn set_presence(
+        &mut self,
+        alloc: Global,
+        used: &UsedName,
+        is_there: bool,
+    ) -> Result<(), AllocError>
+        ensures only { OnlyNames self.old self.new }
+        ensures around { AreAround [] self.old.sites self.new.sites }
+        ensures said { OnOk result (IsPresenceSaid (used_view used.now) is_there self.old self.new) }
+    {
+        self.sites.set_presence(alloc, used, is_there)
+    }
+
+    /// Files may have come or gone. Of each name that templates use and none has it is to be asked again.
+    pub fn look_again(&mut self)
+        ensures only { OnlyNames self.old self.new }
+        ensures around { AreAround [] self.old.sites self.new.sites }
+        ensures due { AreDueAgain self.old.sites self.new.sites }
+    {
+        self.sites.look_again();
+    }
+}
