@@ -1,5 +1,5 @@
 -- Messages that are written one after another.
-use Rattle.std.proofs.Common.{◌≡◌, ◌∙◌, ◌≤◌, ◌+◌, ◌++◌, ◌∷◌, [], ℕ, List, length, take, drop, Option, None, Some, Result, Ok, Err, OnErr, slice_get, refl, sym, ap, subst, append_assoc}
+use Rattle.std.proofs.Common.{◌≡◌, ◌∙◌, ◌≤◌, ◌+◌, ◌++◌, ◌∷◌, [], ℕ, List, length, take, drop, Option, None, Some, Result, Ok, Err, OnOk, OnErr, slice_get, refl, sym, ap, subst, append_assoc}
 use Rattle.std.specs.Io.KnownBytes.{Appends}
 use Rattle.std.specs.List.{flat_map}
 use Rattle.std.proofs.lemmas.List.{append-nil, take_more, take_all, drop_more, take-append-drop}
@@ -51,3 +51,8 @@ part_sent ms i m a b c e before (written, rest, whole, wrote) =
 pub on_any_err : {T E P : Type 0} (r : Result T E) → P → OnErr r P
 on_any_err (Ok v) h = tt
 on_any_err (Err e) h = h
+
+-- what holds anyhow holds of a result
+pub on_any_ok : {T E P : Type 0} (r : Result T E) → P → OnOk r P
+on_any_ok (Ok v) h = h
+on_any_ok (Err e) h = tt

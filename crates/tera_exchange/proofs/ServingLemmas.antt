@@ -107,7 +107,7 @@ unloaded path s = record {
 
 -- .. or to find settings
 pub unconfigured : (s : Server) → IsUnconfigured s s
-unconfigured s = record { same = refl; edited = ([], sym (append-nil (edited_of s))); unpublished = ([], sym (append-nil (unpublished_of s))) }
+unconfigured s = record { same = refl; edited = ([], sym (append-nil (edited_of s))); unpublished = ([], sym (append-nil (unpublished_of s))); given = λ g. g }
 
 -- a folder that is not read is not open
 pub unopened : (opened read : Bool) → (opened ≡ true → read ≡ true) → read ≡ false → opened ≡ false
@@ -251,7 +251,7 @@ rests_short all s mid t sent old new given settled written =
 
 nothing_due : (phase : Phase) (s t : Server) (sent : Outgoing) → s.phase ≡ phase → IsSettling phase s t nothing sent → t.phase ≡ Running → due_of t ≡ []
 nothing_due New s t sent is (same, none) running = cc (sym is ∙ (sym (ap (λ (u : Server). u.phase) same) ∙ running))
-nothing_due Running s t sent is p running = rw (p.edited, p.unpublished) refl
+nothing_due Running s t sent is p running = rw (p.edited, p.unpublished, p.renewed) refl
 nothing_due ShutDown s t sent is (same, none) running = cc (sym is ∙ (sym (ap (λ (u : Server). u.phase) same) ∙ running))
 
 -- nothing did
@@ -352,7 +352,7 @@ rounds_done limit s rests short ended bytes rest sent t (NextRound was came pend
 
 -- before the first nothing is
 new_rests : (s : Server) → IsNew s → IsAtRest s
-new_rests s new = record { given = new.none.0; published = λ running. rw (new.none.1, new.none.2) refl }
+new_rests s new = record { given = new.none.0; published = λ running. rw (new.none.1, new.none.2, new.sites.1) refl }
 
 served : (limit : ℕ) (finished : Ended) (short : Bool) (ended : Option Ended) (s t : Server) (bytes rest : List ℕ) (sent : List (List ℕ)) (read unread old new : Option (List ℕ)) →
     IsNew s → Consumes read unread bytes → Rounds limit s short ended bytes rest sent t → Appends old new (flat_map frame sent) → IsOver ended finished t rest unread →

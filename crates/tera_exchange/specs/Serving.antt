@@ -18,9 +18,11 @@ use Rattle.tera_program_parts.specs.declared.extensions.TheConstants.{EXTENSIONS
 use Rattle.tera_exchange.specs.declared.server.Left.{Left}
 use Rattle.tera_exchange.specs.declared.server.Left.TheVariants as lefts
 use Rattle.tera_server.specs.Configuring.{AreAsked, IsConfiguredBy, IsUnconfigured}
+use Rattle.tera_server.specs.Naming.{OnlyNames}
 use Rattle.tera_server.specs.Settings.{SettingsVal, settings_for}
 use Rattle.tera_server.specs.Settling.{due_of, IsSettling, ArePublishedInPart}
 use Rattle.tera_server.specs.Sending.{unpublished_of}
+use Rattle.tera_server.specs.Sites.{AreDueAgain, AreGiven as AreOthersGiven, renewed_of, site_in}
 use Rattle.tera_server.specs.States.{known_of, text_on, why_on, IsLoadedAs, IsNotLoaded, NeededVal, NeedsFile, NeedsFolder, NeedsChanged, is_there, needed_of, edited_of, Grows, KeepsReported}
 use Rattle.tera_server.specs.Steps.{ended_at, Step, IsRefused, IsUntaken}
 use Rattle.tera_server.specs.declared.configuring.FoundSettings.{FoundSettings}
@@ -43,6 +45,7 @@ pub record IsNew (s : Server) : Type 0 where
   pub kept : IsKept s.workspace
   pub none : (needed_of s ≡ []) × (edited_of s ≡ []) × (unpublished_of s ≡ []) × ((n : List ℕ) → why_of s.unread n ≡ None)
       × ((n : List ℕ) → is_known s.known n ≡ false)
+  pub sites : ((f : List ℕ) → site_in s.sites f ≡ None) × (renewed_of s.sites ≡ []) × AreOthersGiven s.sites
 
 -- what a message does, and what is to be sent then; a message that is too long is missed, and bytes that are not a
 -- message are answered by an error: each may have been a change
@@ -202,20 +205,37 @@ AreGivenInPart (NeedsFile path) s t = IsUnloaded path s t
 AreGivenInPart (NeedsFolder path) s t = IsOpenGivenInPart path s t
 AreGivenInPart (NeedsChanged path) s t = IsUnloaded path s t ⊎ (IsFolderGivenInPart path s t ⊎ AreAskedInPart s t)
 
+-- first of each name that templates use and none has it is to be asked again whether there is a file
+pub record IsLookedAgain (s t : Server) : Type 0 where
+  pub only : OnlyNames s t
+  pub due : AreDueAgain s.sites t.sites
+
+abbrev pub AreGivenAnew : NeededVal → Server → Server → Type 0
+AreGivenAnew needed s t = (u : Server) × IsLookedAgain s u × AreGiven needed u t
+
+abbrev pub AreGivenAnewInPart : NeededVal → Server → Server → Type 0
+AreGivenAnewInPart needed s t = (u : Server) × IsLookedAgain s u × AreGivenInPart needed u t
+
 -- .. so it is asked for again, unless an allocation fails for that too
 pub record IsGivenInPart (needed : NeededVal) (s t : Server) : Type 0 where
   pub mid : Server
-  pub given : AreGivenInPart needed s mid
+  pub given : AreGivenAnewInPart needed s mid
   pub same : t ≡ record mid { needed = t.needed }
   pub again : (needed_of t ≡ needed_of mid ++ needed ∷ []) ⊎ (needed_of t ≡ needed_of mid)
+
+-- the documents are read, and of names that templates use and none has it may be said whether there is a file; nothing
+-- else changes
+abbrev pub AreNamesSaid : Server → Server → Type 0
+AreNamesSaid s t = OnlyNames s t
 
 -- what a server asks for is taken, one by one, and given to it
 pub data Gives (s : Server) : Server → Type 0 where
   GaveNone : Gives s s
-  Gave : (needed : NeededVal) (t u v : Server) → Gives s t → IsAsked (Some needed) t u → AreGiven needed u v → Gives s v
+  Gave : (needed : NeededVal) (t u v : Server) → Gives s t → IsAsked (Some needed) t u → AreGivenAnew needed u v → Gives s v
   GaveInPart : (needed : NeededVal) (t u v : Server) →
       Gives s t → IsAsked (Some needed) t u → IsGivenInPart needed u v → Gives s v
   GaveAll : (t u : Server) → Gives s t → IsAsked None t u → Gives s u
+  GaveNames : (t u : Server) → Gives s t → AreNamesSaid t u → Gives s u
 
 -- from a server on: what came, what was sent, in order, how the exchange ended, if it did, and the server then. After a
 -- message that ends the exchange nothing comes

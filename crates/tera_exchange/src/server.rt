@@ -12,7 +12,8 @@ ghost use Rattle.tera_files.specs.Names.{texts};
 ghost use Rattle.tera_files.specs.declared.reading.Unread.TheVariants.{NotUtf8};
 ghost use Rattle.tera_program_parts.specs.Reasons.{not_utf8};
 ghost use Rattle.tera_exchange.specs.Reasons.{IsUnread};
-ghost use Rattle.tera_exchange.specs.Serving.{Takes, SettlesSo, Rests, IsLoaded, IsUnloaded, AreKnownGiven, AreKnownGivenInPart, AreLoaded, AreLoadedInPart, AreLibrariesGiven, AreLibrariesGivenInPart, AreListed, AreListedGiven, AreSomeGiven, AreSomeGivenInPart, AreListedGivenInPart, IsFolderGiven, IsFolderGivenInPart, IsOpenGiven, IsOpenGivenInPart, extensions, extensions_in, libraries_in, AreGiven, AreGivenInPart, IsGivenInPart, Gives, IsTalking, IsWaiting, IsServed};
+ghost use Rattle.tera_exchange.specs.Serving.{Takes, SettlesSo, Rests, IsLoaded, IsUnloaded, AreKnownGiven, AreKnownGivenInPart, AreLoaded, AreLoadedInPart, AreLibrariesGiven, AreLibrariesGivenInPart, AreListed, AreListedGiven, AreSomeGiven, AreSomeGivenInPart, AreListedGivenInPart, IsFolderGiven, IsFolderGivenInPart, IsOpenGiven, IsOpenGivenInPart, extensions, extensions_in, libraries_in, AreGiven, AreGivenInPart, AreGivenAnew, AreGivenAnewInPart, AreNamesSaid, IsGivenInPart, Gives, IsTalking, IsWaiting, IsServed};
+ghost use Rattle.tera_server.specs.Naming.{OnlyNames};
 ghost use Rattle.tera_server.specs.States.{NeedsChanged, needed_view, needed_of, text_on};
 ghost use Rattle.tera_server.specs.KnownFiles.{is_known};
 ghost use Rattle.tera_server.specs.declared.server.OnDisk.{OnDisk};
@@ -34,8 +35,9 @@ use tera_program_parts::excluded::{is_excluded, leave_out};
 use tera_program_parts::extensions::EXTENSIONS;
 use tera_program_parts::output::{print_error, why_unread};
 use tera_program_parts::settings::references;
+use tera_program_parts::site::may_be;
 use tera_program_parts::status::Ended;
-use tera_server::{Ended as Finished, FoundSettings, Needed, OnDisk, Server};
+use tera_server::{Ended as Finished, FoundSettings, Needed, OnDisk, Server, UsedName};
 
 // The state of the exchange after the messages that came.
 #[derive(Clone, Copy)]
@@ -256,7 +258,7 @@ fn come_to_rest<F: Files + Input + AllocGlobal + Clone + Drop, W: Write>(
         (W.contents writer.old) (W.contents writer.new)) }
     ensures sent { OnOk result (out.new ≡ nothing) }
 {
-    let given = give(files, server);
+    let given = give_all(files, server);
     let settled = settle(files.alloc(), server, writer, out)?;
     if !settled {
         return Ok(Left::Short);
@@ -265,6 +267,44 @@ fn come_to_rest<F: Files + Input + AllocGlobal + Clone + Drop, W: Write>(
         Ok(()) => Ok(Left::AtRest),
         Err(AllocError) => Ok(Left::Short),
     }
+}
+
+// Gives what is asked for still, and then says of names whether there are files.
+fn give_all<F: Files + Input + AllocGlobal + Clone + Drop>(
+    files: &F,
+    server: &mut Server,
+) -> Result<(), AllocError>
+    ensures given { Gives server.old server.new }
+    ensures all { OnOk result (needed_of server.new ≡ []) }
+{
+    give(files, server)?;
+    say_names(files, server)
+}
+
+// Says of each name that templates use and none has whether there may be a file of it.
+fn say_names<F: Files + Input + AllocGlobal>(
+    files: &F,
+    server: &mut Server,
+) -> Result<(), AllocError>
+    ensures { AreNamesSaid server.old server.new }
+{
+    server.read_names(files.alloc())?;
+    let due = server.due_names(files.alloc())?;
+    for used in &due {
+        say_name(files, server, used)?;
+    }
+    Ok(())
+}
+
+fn say_name<F: Files + Input + AllocGlobal>(
+    files: &F,
+    server: &mut Server,
+    used: &UsedName,
+) -> Result<(), AllocError>
+    ensures { OnlyNames server.old server.new }
+{
+    let is_there = may_be(files, used.root.as_str(), used.name.as_str())?;
+    server.set_presence(files.alloc(), used, is_there)
 }
 
 // Publishes findings, and writes them. The result is whether no allocation failed.
@@ -319,16 +359,29 @@ fn give_or_ask_again<F: Files + Input + AllocGlobal + Clone + Drop>(
     server: &mut Server,
     needed: Needed,
 ) -> Result<(), AllocError>
-    ensures given { OnOk result (AreGiven (needed_view needed) server.old server.new) }
+    ensures given { OnOk result (AreGivenAnew (needed_view needed) server.old server.new) }
     ensures in_part { OnErr result (IsGivenInPart (needed_view needed) server.old server.new) }
 {
-    match give_needed(files, server, &needed) {
+    match give_anew(files, server, &needed) {
         Ok(()) => Ok(()),
         Err(AllocError) => {
             server.ask_again(needed)?;
             Err(AllocError)
         }
     }
+}
+
+// Something may be another on disk, so also a file of a name may have come or gone.
+fn give_anew<F: Files + Input + AllocGlobal + Clone + Drop>(
+    files: &F,
+    server: &mut Server,
+    needed: &Needed,
+) -> Result<(), AllocError>
+    ensures given { OnOk result (AreGivenAnew (needed_view needed.now) server.old server.new) }
+    ensures in_part { OnErr result (AreGivenAnewInPart (needed_view needed.now) server.old server.new) }
+{
+    server.look_again();
+    give_needed(files, server, needed)
 }
 
 fn give_needed<F: Files + Input + AllocGlobal + Clone + Drop>(

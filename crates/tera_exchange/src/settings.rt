@@ -16,7 +16,7 @@ use tera_program_parts::markers;
 use tera_program_parts::markers::other_markers_of;
 use tera_program_parts::output::why_unread;
 use tera_program_parts::settings::{Site, severity_at, site_in};
-use tera_program_parts::site::itself_of;
+use tera_program_parts::site::{below, itself_of};
 use tera_server::{FolderSettings, FoundSettings, Reason, RuleSetting};
 use tera_settings::Settings;
 
@@ -44,18 +44,22 @@ pub(crate) fn found_for_folder<R: Files + Input + AllocGlobal>(
     folder: &str,
 ) -> Result<FoundSettings, AllocError> {
     match settings_above(rt, OPTIONAL_RULES.as_slice(), folder) {
-        Ok(Some(file)) => found_in(rt, file),
+        Ok(Some(file)) => found_in(rt, folder, file),
         Ok(None) => Ok(FoundSettings::Nothing),
         Err(why) => wrong_for(rt, why),
     }
 }
 
-fn found_in<R: Files + AllocGlobal>(rt: &R, file: Configured) -> Result<FoundSettings, AllocError> {
+fn found_in<R: Files + AllocGlobal>(
+    rt: &R,
+    folder: &str,
+    file: Configured,
+) -> Result<FoundSettings, AllocError> {
     let path = whole_path(rt, file.source.file.as_str())?;
     let unread = why_unread_between(rt.alloc(), &file)?;
     match site_in(rt, false, file) {
         Ok(site) => {
-            let settings = folder_settings(rt, site, unread.is_some())?;
+            let settings = folder_settings(rt, folder, site, unread.is_some())?;
             Ok(FoundSettings::Set(path, settings, unread))
         }
         Err(why) => wrong_for(rt, why),
@@ -91,6 +95,7 @@ fn has_other_markers(alloc: Global, settings: &Settings) -> Result<bool, AllocEr
 
 fn folder_settings<R: Files + AllocGlobal>(
     rt: &R,
+    folder: &str,
     site: Site,
     other_markers: bool,
 ) -> Result<FolderSettings, AllocError>
@@ -103,6 +108,7 @@ fn folder_settings<R: Files + AllocGlobal>(
         × (s.functions ≡ site.known.functions)) }
 {
     let Site {
+        root,
         extensions,
         exclude,
         library,
@@ -110,16 +116,66 @@ fn folder_settings<R: Files + AllocGlobal>(
         known,
         ..
     } = site;
+    let mut libraries = known_paths(rt, &or_empty(rt.alloc(), library))?;
+    let root = root_seen_from(rt, folder, &root)?;
+    if let Some(root) = &root {
+        add_root_if_apart(folder, root, &mut libraries)?;
+    }
     Ok(FolderSettings {
         extensions: without_points(rt.alloc(), &extensions)?,
-        libraries: known_paths(rt, &or_empty(rt.alloc(), library))?,
+        libraries,
         exclude: or_empty(rt.alloc(), exclude),
         other_markers,
         rules: rules_of(rt.alloc(), rules.as_slice())?,
+        root,
         filters: known.filters,
         tests: known.tests,
         functions: known.functions,
     })
+}
+
+// The path of the root as the files below it are given: by the path of the folder, if it is there or in it, or as the
+// system knows it, if the folder is in the root. If it is elsewhere, no file of the folder has a name; nor has one if a
+// link leads to a folder that is in the root.
+fn root_seen_from<R: Files + AllocGlobal>(
+    rt: &R,
+    folder: &str,
+    root: &Option<String>,
+) -> Result<Option<String>, AllocError> {
+    let Some(root) = root else {
+        return Ok(None);
+    };
+    let (Some(root), Some(itself)) = (itself_of(rt, root.as_str())?, itself_of(rt, folder)?) else {
+        return Ok(None);
+    };
+    if let Some(rest) = below(itself.as_str(), root.as_str()) {
+        return Ok(Some(path_in(rt.alloc(), folder, rest)?));
+    }
+    if itself.as_str() == folder && below(root.as_str(), folder).is_some() {
+        Ok(Some(root))
+    } else {
+        Ok(None)
+    }
+}
+
+// The path of what is at this path in the folder, or of the folder itself.
+fn path_in(alloc: Global, folder: &str, rest: &str) -> Result<String, AllocError> {
+    if rest.is_empty() {
+        return String::from_str(alloc, folder);
+    }
+    Ok(Path::new(folder).join(alloc, rest)?.into_string())
+}
+
+// A root in which the folder is is read as a library is.
+fn add_root_if_apart(
+    folder: &str,
+    root: &String,
+    libraries: &mut Vec<String>,
+) -> Result<(), AllocError> {
+    if !Path::new(root.as_str()).starts_with(folder) {
+        libraries.push(root.clone()?)?;
+    }
+    Ok(())
 }
 
 fn or_empty(alloc: Global, texts: Option<Vec<String>>) -> Vec<String>

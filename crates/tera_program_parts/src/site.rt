@@ -74,8 +74,8 @@ pub fn itself_of<R: Files + AllocGlobal>(
     }
 }
 
-// The rest of the path after the root, if it begins with that.
-fn below<'a>(root: &str, path: &'a str) -> Option<&'a str>
+/// The rest of the path after the root, if it begins with that.
+pub fn below<'a>(root: &str, path: &'a str) -> Option<&'a str>
     ensures { IfSome result (λ rest. path_components path.now
         ≡ path_components root.now ++ path_components rest.now) }
 {
@@ -106,8 +106,8 @@ fn add_others<R: Files + AllocGlobal>(
     Ok(())
 }
 
-// Whether there may be a file of this name below the root: not if it is a folder, or if it is known that there is none.
-fn may_be<R: Files + AllocGlobal>(rt: &R, root: &str, name: &str) -> Result<bool, AllocError> {
+/// Whether there may be a file of this name below the root: not if it is a folder, or if it is known that there is none.
+pub fn may_be<R: Files + AllocGlobal>(rt: &R, root: &str, name: &str) -> Result<bool, AllocError> {
     if !is_name(name) {
         return Ok(false);
     }

@@ -31,7 +31,7 @@ returns-then-not-branch g c =
     let came = c.in_ok-take_piece.ensures.came in
     let end = came.3 c.if-not-branch.true in
     served_at_end LONGEST c.ended-finished.result c.pieces.short start c.pieces.server before.0 came.0 c.pieces.frames r0 r2 w0 w1
-    (record { phase = new.phase; known = new.known; reported = new.reported; kept = new.kept; none = new.none })
+    (record { phase = new.phase; known = new.known; reported = new.reported; kept = new.kept; none = new.none; sites = new.sites })
     (consumes_more r0 (g.R.Read.remaining c.pieces.reader) r2 before.0 came.0 before.1 came.1)
     end.0 end.1 c.ended-finished.ensures before.2
 
@@ -57,7 +57,7 @@ returns-in-Ended g c =
     (subst (λ n. IsTalking n None s s came_before held w1 w1 → IsWaiting n c.in_ok-finished.field-0 s t came_before now w1 w2) limit
     (c.in_ok-finished.ensures.talked s came_before w1) (talk_begun LONGEST s came_before held w1 (came.2 before.2.rest before.2.represents))) in
     served_ended LONGEST c.in-Ended.finished c.pieces.short start s t before.0 came.0 c.pieces.frames now r0 r2 w0 w1 w2
-    (record { phase = new.phase; known = new.known; reported = new.reported; kept = new.kept; none = new.none })
+    (record { phase = new.phase; known = new.known; reported = new.reported; kept = new.kept; none = new.none; sites = new.sites })
     (consumes_more r0 (g.R.Read.remaining c.pieces.reader) r2 before.0 came.0 before.1 came.1) before.2 answered
 
 pub pieces-preserved : goal.pieces-preserved
