@@ -674,8 +674,7 @@ fn give_known<F: Files + Input + AllocGlobal>(
     Ok(())
 }
 
-// Gives a file that was known; without a text, if it is in no open folder, or does not have the name of a template any
-// more.
+// Gives a file that was known; without a text, if it does not count any more.
 fn give_again<F: Files + Input + AllocGlobal>(
     files: &F,
     server: &mut Server,
@@ -684,11 +683,20 @@ fn give_again<F: Files + Input + AllocGlobal>(
     ensures loaded { OnOk result (IsLoaded path.now server.old server.new) }
     ensures unloaded { OnErr result (IsUnloaded path.now server.old server.new) }
 {
-    if is_in_any(server.folders(), path) && is_named_so(files.alloc(), server, path)? {
+    if still_counts(files.alloc(), server, path)? {
         give_single(files, server, path)
     } else {
         give_nothing(files, server, path)
     }
+}
+
+// Whether a file that was known counts still: in an open folder, if it has the name of a template; elsewhere, if it is in
+// a library.
+fn still_counts(alloc: Global, server: &Server, path: &str) -> Result<bool, AllocError> {
+    if is_in_any(server.folders(), path) {
+        return is_named_so(alloc, server, path);
+    }
+    Ok(server.is_in_library(path))
 }
 
 fn give_listed<F: Files + Input + AllocGlobal + Clone + Drop>(
