@@ -45,7 +45,7 @@ inside_column e b l ls zero c =
 inside_column e b l ls (suc line) c = let other : suc line ≢ 0 = omega arith in rw (ne_eqb (suc line) 0 other) (omega arith)
 
 -- after a line's first byte
-both_after : (e : Encoding) (ls : List Line) (k : ℕ) → IsEndBefore (10 ∷ []) ls → (p : Position) × (position_of e (at_end (10 ∷ []) ∷ ls) (suc k) ≡ below p)
+pub both_after : (e : Encoding) (ls : List Line) (k : ℕ) → IsEndBefore (10 ∷ []) ls → (p : Position) × (position_of e (at_end (10 ∷ []) ∷ ls) (suc k) ≡ below p)
 both_after e [] k is = absurd (cc)
 both_after e (l ∷ ls) k is = (position_of e (l ∷ ls) (suc k - 1), after_line e (at_end (10 ∷ [])) (l ∷ ls) (suc k) (omega arith) (omega arith))
 

@@ -14,7 +14,7 @@ use Rattle.text_edits.proofs.Columns.{column_end, column_on}
 use Rattle.text_edits.proofs.Division.{Plain, lines_end, lines_on, lines_some}
 
 -- a byte before a text, on a line after the first
-later_ends : (e : Encoding) (b : ℕ) (bs : List ℕ) (line c : ℕ) → ends_line (b ∷ bs) ≡ true → byte_in e (lines_of (b ∷ bs)) (suc line) c ≡ 1 + byte_in e (lines_of bs) line c
+pub later_ends : (e : Encoding) (b : ℕ) (bs : List ℕ) (line c : ℕ) → ends_line (b ∷ bs) ≡ true → byte_in e (lines_of (b ∷ bs)) (suc line) c ≡ 1 + byte_in e (lines_of bs) line c
 later_ends e b bs line c ends = ap (λ ls. byte_in e ls (suc line) c) (lines_end b bs ends) ∙ omega arith
 
 later_with : (e : Encoding) (b : ℕ) (t : Bool) (l : Line) (ls : List Line) (line c : ℕ)
@@ -26,7 +26,7 @@ later_byte : (e : Encoding) (b : ℕ) (ls : List Line) (line c : ℕ) → 0 < le
 later_byte e b [] line c some = absurd (omega arith)
 later_byte e b (l ∷ ls) line c some = later_with e b (b == 13) l ls line c
 
-later_on : (e : Encoding) (b : ℕ) (bs : List ℕ) (line c : ℕ) → ends_line (b ∷ bs) ≡ false → byte_in e (lines_of (b ∷ bs)) (suc line) c ≡ 1 + byte_in e (lines_of bs) (suc line) c
+pub later_on : (e : Encoding) (b : ℕ) (bs : List ℕ) (line c : ℕ) → ends_line (b ∷ bs) ≡ false → byte_in e (lines_of (b ∷ bs)) (suc line) c ≡ 1 + byte_in e (lines_of bs) (suc line) c
 later_on e b bs line c on = ap (λ ls. byte_in e ls (suc line) c) (lines_on b bs on) ∙ later_byte e b (lines_of bs) line c (lines_some bs)
 
 -- a byte ends a line, or it is plain

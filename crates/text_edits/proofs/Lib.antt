@@ -3,6 +3,7 @@ pub mod Columns
 pub mod Division
 pub mod Inverse
 pub mod Kept
+pub mod Nearer
 pub mod Order
 pub mod Starts
 pub mod Steps

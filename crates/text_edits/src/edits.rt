@@ -2,7 +2,9 @@
 
 ghost use Rattle.std.specs.Prelude.{◌≡◌, ◌≤◌, ◌∷◌, length, drop, map, string_bytes, IfOk};
 ghost use Rattle.text_edits.specs.Edits.{change_view, edited as edited_text};
+ghost use Rattle.text_edits.specs.Places.{AreLinesOf};
 
+use crate::lines::Lines;
 use crate::positions::{Encoding, Position};
 use crate::runs::Run;
 use std::alloc::{AllocError, Global};
@@ -17,8 +19,8 @@ pub enum Change<'a> {
 }
 
 /// The text after these changes, each of which speaks of the text that those before it left. Parts take the time of the
-/// text together, if each ends before the one made last begins. Any other change takes the time of the text by itself.
-/// Each part also takes the time of its lines.
+/// text together, if each ends before the one made last begins, however long its lines are. Any other change takes the
+/// time of the text by itself.
 pub fn edited(
     alloc: Global,
     text: &str,
@@ -63,7 +65,8 @@ fn after_some<'n>(
     match change {
         Change::Whole(new) => Ok((String::from_str(alloc, new)?, 0)),
         Change::Part(start, end, new) => {
-            let mut run = Run::begin(alloc, text, encoding, start, end, new)?;
+            let lines = lines_for(alloc, text, !following.is_empty())?;
+            let mut run = Run::begin(alloc, text, lines, encoding, start, end, new)?;
             let mut made = 0;
             'others: for other in following {
                 if !run.goes_on(*other)? {
@@ -73,5 +76,16 @@ fn after_some<'n>(
             }
             Ok((run.into_text(alloc)?, made))
         }
+    }
+}
+
+// The lines of a text, of which one position is looked for or many.
+fn lines_for(alloc: Global, text: &str, are_many: bool) -> Result<Lines, AllocError>
+    ensures { IfOk result (AreLinesOf text.now) }
+{
+    if are_many {
+        Lines::for_many(alloc, text)
+    } else {
+        Lines::of(alloc, text)
     }
 }

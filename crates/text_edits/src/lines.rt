@@ -1,11 +1,11 @@
 //! Where the lines of a text begin.
 
-ghost use Rattle.std.specs.Prelude.{◌≡◌, ◌<◌, ◌≤◌, ℕ, List, All, length, drop, slice_index, IfOk};
+ghost use Rattle.std.specs.Prelude.{◌≡◌, ◌<◌, ◌≤◌, ◌↔◌, ℕ, List, All, length, drop, slice_index, IfOk, IfSome, IsTrue};
 ghost use Rattle.text_edits.specs.Lines.{lines_of, starts_of, ends_line as is_line_end};
-ghost use Rattle.text_edits.specs.Places.{AreLinesOf, places_in};
+ghost use Rattle.text_edits.specs.Places.{AreLinesOf, IsPlaceTo, places_in};
 ghost use Rattle.text_edits.specs.Walks.{IsReached};
 
-use crate::positions::Encoding;
+use crate::positions::{Encoding, Position};
 use crate::walk::Walk;
 use std::alloc::{AllocError, Global};
 
@@ -108,6 +108,33 @@ impl Lines {
         }
     }
 
+    // The last place that is kept on the line, up to the character. It is not within the end of the line.
+    pub(crate) fn place_to(
+        &self,
+        text: &str,
+        encoding: Encoding,
+        position: Position,
+    ) -> Option<Walk>
+        requires { AreLinesOf text.now self.now }
+        ensures { IfSome result (IsPlaceTo encoding text.now position) }
+    {
+        let places = self.places(encoding);
+        let mut at = places.partition_point(|place| place.position <= position);
+        'places: while at > 0 {
+            at -= 1;
+            let place = places[at];
+            if place.position.line != position.line
+                || place.position.character > position.character
+            {
+                return None;
+            }
+            if !is_feed(text.as_bytes(), place.byte) {
+                return Some(place);
+            }
+        }
+        None
+    }
+
     fn places(&self, encoding: Encoding) -> &[Walk]
         ensures { result.now ≡ places_in encoding self.now }
     {
@@ -144,6 +171,13 @@ fn places_of(alloc: Global, text: &str, encoding: Encoding) -> Result<Vec<Walk>,
         places.push(place)?;
     }
     Ok(places)
+}
+
+// Whether a line feed is at this place.
+fn is_feed(bytes: &[u8], at: usize) -> bool
+    ensures { IsTrue result ↔ (slice_index bytes.now at ≡ 10) }
+{
+    at < bytes.len() && bytes[at] == b'\n'
 }
 
 // Whether a line ends after the byte at this place.

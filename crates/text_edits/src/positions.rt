@@ -2,7 +2,7 @@
 
 ghost use Rattle.std.specs.Prelude.{◌≡◌, ◌≤◌, length, IsCharBoundary};
 ghost use Rattle.text_edits.specs.Lines.{lines_of};
-ghost use Rattle.text_edits.specs.Places.{AreLinesOf};
+ghost use Rattle.text_edits.specs.Places.{AreLinesOf, IsPlaceTo};
 ghost use Rattle.text_edits.specs.Positions.{units, byte_of, byte_in, position_of, boundary_to};
 
 use crate::lines::Lines;
@@ -24,7 +24,8 @@ pub struct Position {
 }
 
 /// The byte at which the position is: beyond the end of its line that end, within a character its start, and on a line
-/// beyond the last the end of the text. It takes the time of the line.
+/// beyond the last the end of the text. It takes the time of the line, and with lines that were made `for_many` positions
+/// that of some hundred bytes at most.
 pub fn byte_at(text: &str, lines: &Lines, encoding: Encoding, position: Position) -> usize
     requires { AreLinesOf text.now lines.now }
     ensures byte { result ≡ byte_of encoding (lines_of text.now) position }
@@ -32,6 +33,9 @@ pub fn byte_at(text: &str, lines: &Lines, encoding: Encoding, position: Position
 {
     if position.line >= lines.count() {
         return text.len();
+    }
+    if let Some(place) = lines.place_to(text, encoding, position) {
+        return byte_from(text, encoding, place, position);
     }
     let start = lines.start(position.line);
     let (_, rest) = text.as_bytes().split_at(start);
@@ -53,6 +57,17 @@ pub fn position_at(text: &str, lines: &Lines, encoding: Encoding, byte: usize) -
     };
     let near = lines.nearer(encoding, byte, begun);
     near.onward(text, encoding, byte).position
+}
+
+// The byte at which the position is, from a place that is not after it.
+fn byte_from(text: &str, encoding: Encoding, place: Walk, position: Position) -> usize
+    requires { IsPlaceTo encoding text.now position place }
+    ensures byte { result ≡ byte_of encoding (lines_of text.now) position }
+    ensures boundary { IsCharBoundary text.now result }
+{
+    let (_, rest) = text.as_bytes().split_at(place.byte);
+    let left = position.character - place.position.character;
+    place.byte + column_byte(rest, encoding, left)
 }
 
 // The byte at which the character of the first line is.

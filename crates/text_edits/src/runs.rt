@@ -3,6 +3,7 @@
 ghost use Rattle.std.specs.Prelude.{◌≡◌, ◌≤◌, ◌++◌, if◌then◌else◌, take, drop, max, string_bytes, IfOk, OnOk, IsCharBoundary};
 ghost use Rattle.text_edits.specs.Edits.{after, change_view, NewPart};
 ghost use Rattle.text_edits.specs.Lines.{lines_of};
+ghost use Rattle.text_edits.specs.Places.{AreLinesOf};
 ghost use Rattle.text_edits.specs.Positions.{byte_of};
 ghost use Rattle.text_edits.specs.Runs.{IsRun, run_text};
 
@@ -36,11 +37,13 @@ impl<'t, 'n> Run<'t, 'n> {
     pub(crate) fn begin(
         alloc: Global,
         text: &'t str,
+        lines: Lines,
         encoding: Encoding,
         start: Position,
         end: Position,
         new: &'n str,
     ) -> Result<Run<'t, 'n>, AllocError>
+        requires { AreLinesOf text.now lines }
         ensures run { IfOk result IsRun }
         ensures encoding { IfOk result (λ r. r.encoding ≡ encoding) }
         ensures text { IfOk result (λ r.
@@ -48,7 +51,7 @@ impl<'t, 'n> Run<'t, 'n> {
     {
         let mut run = Run {
             text,
-            lines: Lines::of(alloc, text)?,
+            lines,
             encoding,
             kept: text.len(),
             pieces: Vec::new(alloc),
