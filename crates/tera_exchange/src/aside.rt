@@ -9,23 +9,39 @@ use std::fs;
 use std::rt::Files;
 use tera_files::is_left_out as is_name_left_out;
 
-/// Whether the file of this path is in an open folder, and is left out when that is read: a name on the way to it is
-/// left out, or a link is on the way. If it is in several open folders, it is left out if each of them leaves it out.
+/// Whether the file of this path is in one of the folders, and is left out by each that it is in.
 pub(crate) fn is_left_out<F: Files + AllocGlobal>(
     files: &F,
     folders: &[String],
     path: &str,
 ) -> bool {
-    let mut left_out = false;
+    matches!(is_read_by(files, folders, path), Some(false))
+}
+
+/// Whether one of these folders and files is at this path, or reads what is there. `None` if none of them has it.
+pub(crate) fn is_read_by<F: Files + AllocGlobal>(
+    files: &F,
+    folders: &[String],
+    path: &str,
+) -> Option<bool> {
+    let mut found = None;
     for folder in folders {
-        if let Some(rest) = rest_below(folder.as_str(), path) {
-            if !has_left_out(rest) && !is_linked(files, folder.as_str(), path, rest) {
-                return false;
-            }
-            left_out = true;
+        match is_read_in(files, folder.as_str(), path) {
+            Some(true) => return Some(true),
+            Some(false) => found = Some(false),
+            None => {}
         }
     }
-    left_out
+    found
+}
+
+// A folder does not read a file if a name on the way to it is left out, or a link is on the way.
+fn is_read_in<F: Files + AllocGlobal>(files: &F, folder: &str, path: &str) -> Option<bool> {
+    if folder == path {
+        return Some(true);
+    }
+    let rest = rest_below(folder, path)?;
+    Some(!has_left_out(rest) && !is_linked(files, folder, path, rest))
 }
 
 /// Whether the file of this path is in an open folder.
