@@ -303,8 +303,13 @@ fn say_name<F: Files + Input + AllocGlobal>(
 ) -> Result<(), AllocError>
     ensures { OnlyNames server.old server.new }
 {
-    let is_there = may_be(files, used.root.as_str(), used.name.as_str())?;
+    let is_there = may_be(files, folder_at(used.root.as_str()), used.name.as_str())?;
     server.set_presence(files.alloc(), used, is_there)
+}
+
+// The folder of a root, which has no slash at its end.
+fn folder_at(root: &str) -> &str {
+    if root.is_empty() { "/" } else { root }
 }
 
 // Publishes findings, and writes them. The result is whether no allocation failed.

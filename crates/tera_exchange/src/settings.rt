@@ -134,9 +134,9 @@ fn folder_settings<R: Files + AllocGlobal>(
     })
 }
 
-// The path of the root as the files below it are given: by the path of the folder, if it is there or in it, or as the
-// system knows it, if the folder is in the root. If it is elsewhere, no file of the folder has a name; nor has one if a
-// link leads to a folder that is in the root.
+// The path of the root, without a slash at its end, as the files below it are given: by the path of the folder, if it is
+// there or in it, or as the system knows it, if the folder is in the root. If it is elsewhere, no file of the folder has
+// a name; nor has one if a link leads to a folder that is in the root.
 fn root_seen_from<R: Files + AllocGlobal>(
     rt: &R,
     folder: &str,
@@ -152,7 +152,7 @@ fn root_seen_from<R: Files + AllocGlobal>(
         return Ok(Some(path_in(rt.alloc(), folder, rest)?));
     }
     if itself.as_str() == folder && below(root.as_str(), folder).is_some() {
-        Ok(Some(root))
+        Ok(Some(without_slash(rt.alloc(), root.as_str())?))
     } else {
         Ok(None)
     }
@@ -161,18 +161,27 @@ fn root_seen_from<R: Files + AllocGlobal>(
 // The path of what is at this path in the folder, or of the folder itself.
 fn path_in(alloc: Global, folder: &str, rest: &str) -> Result<String, AllocError> {
     if rest.is_empty() {
-        return String::from_str(alloc, folder);
+        return without_slash(alloc, folder);
     }
     Ok(Path::new(folder).join(alloc, rest)?.into_string())
 }
 
-// A root in which the folder is is read as a library is.
+// The path without the slash that the root of the system has at its end.
+fn without_slash(alloc: Global, folder: &str) -> Result<String, AllocError> {
+    if folder == "/" {
+        Ok(String::new(alloc))
+    } else {
+        String::from_str(alloc, folder)
+    }
+}
+
+// A root in which the folder is is read as a library is, unless it is the root of the system.
 fn add_root_if_apart(
     folder: &str,
     root: &String,
     libraries: &mut Vec<String>,
 ) -> Result<(), AllocError> {
-    if !Path::new(root.as_str()).starts_with(folder) {
+    if !root.is_empty() && !Path::new(root.as_str()).starts_with(folder) {
         libraries.push(root.clone()?)?;
     }
     Ok(())
