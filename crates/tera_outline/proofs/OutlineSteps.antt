@@ -1,11 +1,9 @@
 -- What the code does to an outline, on its states.
-use Rattle.std.proofs.Common.{◌≡◌, ◌-◌, ◌<◌, ◌≤◌, ◌++◌, ℕ, zero, suc, true, false, ◌||◌, Option, Some, List, [], ◌∷◌, length, map, option_map, take, drop, set, get_or, reverse, vec_len, refl, ap, sym, subst, ◌∙◌, arith}
+use Rattle.std.proofs.Common.{◌≡◌, ◌-◌, ◌<◌, ◌≤◌, ◌++◌, ℕ, zero, suc, true, false, Option, Some, List, [], ◌∷◌, length, map, option_map, take, drop, set, get_or, reverse, vec_len, refl, ap, sym, subst, ◌∙◌, arith}
 use Rattle.std.specs.Prelude.{All}
 use Rattle.std.specs.Option.{option_to_list}
-use Rattle.std.specs.List.{list_any}
 use Rattle.std.proofs.lemmas.List.{append-nil, reverse-append, length-reverse, get_or-reverse, length-map, take_all}
 use Rattle.std.proofs.lemmas.List.Elements.{All-pop, All-weaker}
-use Rattle.std.proofs.lemmas.List.Sorted.{IsPermutation-reverse, list_any-IsPermutation}
 use Rattle.tera_outline.specs.declared.pieces.Piece.{Piece}
 use Rattle.tera_outline.specs.declared.symbols.SymbolKind.{SymbolKind}
 use Rattle.tera_outline.specs.declared.symbols.Symbol.{Symbol}
@@ -13,8 +11,8 @@ use Rattle.tera_outline.specs.declared.symbols.Open.{Open}
 use Rattle.tera_outline.specs.declared.symbols.Outline.{Outline}
 use Rattle.tera_outline.specs.declared.symbols.Mark as code
 use Rattle.tera_outline.specs.Pieces.{part_of}
-use Rattle.tera_outline.specs.Symbols.{Outlined, outlined, same_kind, is_open, mark_of, marks}
-use Rattle.tera_outline.specs.Opened.{State, state_of, kinds_of, ended, unwound, unwound_in, took, all_ended, all_ended_in, mark_view, AreNumbered}
+use Rattle.tera_outline.specs.Symbols.{Outlined, outlined, same_kind, mark_of, marks}
+use Rattle.tera_outline.specs.Opened.{State, state_of, KnowOthers, ended, unwound, unwound_in, took, all_ended, all_ended_in, mark_view, AreNumbered}
 use Rattle.tera_outline.proofs.Outlines.{settles, settled, took_settles, all_settled}
 
 all_reverse : (P : Open → Type 0) (os : List Open) → All P os → All P (reverse os)
@@ -69,13 +67,9 @@ ended_here last xs x os after o all e within is before =
     let b : all_ended_in last (map outlined xs) (o ∷ reverse after) ≡ all = rw e at before in
     rw (ended_set xs o.number last x within is) b
 
-any_map : (k : SymbolKind) (os : List Open) → list_any (λ (o : Open). same_kind k o.kind) os ≡ is_open k (kinds_of os)
-any_map k [] = refl
-any_map k (o ∷ os) = ap (λ b. same_kind k o.kind || b) (any_map k os)
-
-pub any_kind : (k : SymbolKind) (os : List Open) → list_any (λ (o : Open). same_kind k o.kind) os ≡ is_open k (kinds_of (reverse os))
-any_kind k os =
-    list_any-IsPermutation (λ (o : Open). same_kind k o.kind) os (reverse os) (IsPermutation-reverse os) ∙ any_map k (reverse os)
+-- those around one know what they did
+pub others_around : (os after : List Open) (o : Open) → reverse os ≡ o ∷ reverse after → KnowOthers (reverse os) → KnowOthers (reverse after)
+others_around os after o is knows = (subst KnowOthers is knows).1
 
 marks_step : (last : ℕ) (xs : List Piece) → 1 ≤ length xs
     → marks last (map part_of xs) ≡ option_to_list (mark_of last (map part_of xs)) ++ marks last (map part_of (take (length xs - 1) (drop 1 xs)))

@@ -1,6 +1,7 @@
 -- An outline of which some symbols are open.
-use Rattle.std.specs.Prelude.{◌<◌, ◌++◌, ℕ, zero, suc, if◌then◌else◌, List, [], ◌∷◌, map, length, reverse, All, vec_len}
+use Rattle.std.specs.Prelude.{◌≡◌, ◌<◌, ◌++◌, ℕ, zero, suc, if◌then◌else◌, List, [], ◌∷◌, map, length, reverse, All, vec_len}
 use Rattle.tera_outline.specs.declared.symbols.SymbolKind.{SymbolKind}
+use Rattle.tera_outline.specs.declared.symbols.SymbolKind.TheVariants as kinds
 use Rattle.tera_outline.specs.declared.symbols.Open.{Open}
 use Rattle.tera_outline.specs.declared.symbols.Outline.{Outline}
 use Rattle.tera_outline.specs.declared.symbols.Mark as code
@@ -27,6 +28,18 @@ mark_view (tags.Closes kind start end) = Closes kind start end
 
 abbrev pub kinds_of : List Open → List SymbolKind
 kinds_of opened = map (λ (o : Open). o.kind) opened
+
+abbrev pub other : SymbolKind → SymbolKind
+other kinds.Block = kinds.Component
+other kinds.Component = kinds.Block
+
+-- each knows whether one of the other kind is open around it, the innermost first
+abbrev pub KnowOthers : List Open → Type 0
+KnowOthers [] = Unit {0}
+KnowOthers (o ∷ os) = (o.is_in_other ≡ is_open (other o.kind) (kinds_of os)) × KnowOthers os
+
+abbrev pub KnowsOthers : Outline → Type 0
+KnowsOthers o = KnowOthers (reverse o.open.items)
 
 -- the symbol of this number ends there
 abbrev pub ended : ℕ → ℕ → List Outlined → List Outlined
@@ -59,7 +72,7 @@ opened_with kind start name = record {
 abbrev pub took : Mark → State → State
 took (Opens kind start name) s = record {
   symbols = s.symbols ++ opened_with kind start name ∷ [];
-  opened = record { number = length s.symbols; kind = kind } ∷ s.opened;
+  opened = record { number = length s.symbols; kind = kind; is_in_other = is_open (other kind) (kinds_of s.opened) } ∷ s.opened;
 }
 took (Closes kind start end) s = if is_open kind (kinds_of s.opened) then unwound kind start end s else s
 

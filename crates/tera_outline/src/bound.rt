@@ -1,6 +1,6 @@
 //! The variables that a text binds.
 
-ghost use Rattle.std.specs.Prelude.{◌≡◌, ◌++◌, map, option_map, IfOk, OnOk};
+ghost use Rattle.std.specs.Prelude.{◌≡◌, ◌<◌, ◌++◌, map, option_map, IfOk, OnOk};
 ghost use Rattle.std.specs.Option.{option_to_list};
 ghost use Rattle.tera_lexer.specs.code.Seen.{seen};
 ghost use Rattle.tera_outline.specs.Pieces.{part_of};
@@ -8,6 +8,7 @@ ghost use Rattle.tera_outline.specs.Bound as specs;
 ghost use Rattle.tera_outline.specs.Bound.{bound_of};
 
 use crate::pieces::Piece;
+use crate::signatures::Place as InHead;
 use std::alloc::{AllocError, Global};
 use tera_lexer::Token;
 
@@ -63,12 +64,8 @@ enum Place {
     Pair,
     // After `set` and `set_global`.
     Set,
-    // In the name of a component that is defined.
-    Component,
-    // Where a parameter comes in the head of a component.
-    Parameter,
-    // After the name of a parameter.
-    Head,
+    // In the head of a component that is defined.
+    Head(InHead),
     Other,
 }
 
@@ -76,73 +73,68 @@ impl Place {
     fn binds(self) -> bool
         ensures { result ≡ specs.binds self }
     {
-        matches!(self, Place::For | Place::Set | Place::Parameter)
+        match self {
+            Place::For | Place::Set => true,
+            Place::Head(place) => place.is_due(),
+            _ => false,
+        }
     }
 
     // Where the next token is after this one.
     fn after(self, token: &Token<'_>) -> Place
+        requires { specs.depth_of self < usize.MAX }
         ensures { result ≡ specs.place_after self (seen token.now) }
     {
         match token {
             Token::TagStart(_) => Place::Tag,
             Token::TagEnd(_) => Place::Other,
-            Token::Ident(word) => self.after_word(word),
-            Token::Comma => self.after_comma(),
-            Token::LeftParen => self.after_parenthesis(),
-            _ => self.after_other(),
+            _ => self.within(token),
         }
     }
 
-    fn after_word(self, word: &str) -> Place
-        ensures { result ≡ specs.after_word self word.now }
+    // After a token within a tag.
+    fn within(self, token: &Token<'_>) -> Place
+        requires { specs.depth_of self < usize.MAX }
+        ensures { result ≡ specs.within self (seen token.now) }
     {
         match self {
-            Place::Tag => after_statement(word),
-            Place::For => Place::Pair,
-            Place::Component => Place::Component,
-            Place::Parameter | Place::Head => Place::Head,
-            Place::Pair | Place::Set | Place::Other => Place::Other,
-        }
-    }
-
-    fn after_comma(self) -> Place
-        ensures { result ≡ specs.after_comma self }
-    {
-        match self {
-            Place::Pair => Place::For,
-            Place::Parameter | Place::Head => Place::Parameter,
-            _ => Place::Other,
-        }
-    }
-
-    fn after_parenthesis(self) -> Place
-        ensures { result ≡ specs.after_parenthesis self }
-    {
-        match self {
-            Place::Component => Place::Parameter,
-            _ => self.after_other(),
-        }
-    }
-
-    // After what is neither a word nor a comma, as a dot, the `@` of a parameter and its default.
-    fn after_other(self) -> Place
-        ensures { result ≡ specs.after_other self }
-    {
-        match self {
-            Place::Component | Place::Parameter | Place::Head => self,
-            _ => Place::Other,
+            Place::Tag => after_statement(token),
+            Place::For => after_name(token),
+            Place::Pair => after_pair(token),
+            Place::Head(place) => Place::Head(place.after(token)),
+            Place::Set | Place::Other => Place::Other,
         }
     }
 }
 
-// After the first word of a tag.
-fn after_statement(word: &str) -> Place
-    ensures { result ≡ specs.after_statement word.now }
+// After the first token of a tag.
+fn after_statement(token: &Token<'_>) -> Place
+    ensures { result ≡ specs.after_statement (seen token.now) }
 {
-    match word {
-        "for" => Place::For,
-        "set" | "set_global" => Place::Set,
-        "component" => Place::Component,
+    match token {
+        Token::Ident("for") => Place::For,
+        Token::Ident("set" | "set_global") => Place::Set,
+        Token::Ident("component") => Place::Head(InHead::Name),
+        _ => Place::Other,
+    }
+}
+
+// After a token that may be a name of a `for`.
+fn after_name(token: &Token<'_>) -> Place
+    ensures { result ≡ specs.after_name (seen token.now) }
+{
+    match token {
+        Token::Ident(_) => Place::Pair,
+        _ => Place::Other,
+    }
+}
+
+// After a token that may be the comma of a `for`.
+fn after_pair(token: &Token<'_>) -> Place
+    ensures { result ≡ specs.after_pair (seen token.now) }
+{
+    match token {
+        Token::Comma => Place::For,
         _ => Place::Other,
     }
 }

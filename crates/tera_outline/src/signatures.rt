@@ -131,20 +131,20 @@ fn parameter_at<'t>(place: Place, from: usize, piece: &Piece<'t>) -> Option<Para
     }
 }
 
-// Where in a head a token is.
+/// Where in a head a token is.
 #[derive(Clone, Copy)]
-enum Place {
-    // Before the parenthesis that opens the list of parameters.
+pub(crate) enum Place {
+    /// Before the parenthesis that opens the list of parameters.
     Name,
-    // In the list, with so many inner brackets open. The name of a parameter is due until it has come.
+    /// In the list, with so many inner brackets open. The name of a parameter is due until it has come.
     Parameters { depth: usize, due: bool },
-    // After the list.
+    /// After the list.
     Rest,
 }
 
 impl Place {
-    // Whether a name is that of a parameter.
-    fn is_due(self) -> bool
+    /// Whether a name is that of a parameter.
+    pub(crate) fn is_due(self) -> bool
         ensures { result ≡ specs.is_due self }
     {
         match self {
@@ -153,8 +153,8 @@ impl Place {
         }
     }
 
-    // Where the next token is after this one.
-    fn after(self, token: &Token<'_>) -> Place
+    /// Where the next token is after this one.
+    pub(crate) fn after(self, token: &Token<'_>) -> Place
         requires { specs.depth_of self < usize.MAX }
         ensures { result ≡ specs.place_after self (seen token.now) }
     {

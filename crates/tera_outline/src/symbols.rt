@@ -5,7 +5,7 @@ ghost use Rattle.tera_lexer.specs.code.Seen.{seen};
 ghost use Rattle.tera_outline.specs.Pieces.{Part, part_of, ArePartsOf};
 ghost use Rattle.tera_outline.specs.Symbols as specs;
 ghost use Rattle.tera_outline.specs.Symbols.{outlined, outline_of, same_kind};
-ghost use Rattle.tera_outline.specs.Opened.{mark_view, state_of, kinds_of, opened_with, took, unwound, all_ended, AreNumbered};
+ghost use Rattle.tera_outline.specs.Opened.{mark_view, state_of, kinds_of, other as other_kind, opened_with, took, unwound, all_ended, AreNumbered, KnowsOthers};
 
 use crate::dotted::{dotted, end_of, start_of, text_of};
 use crate::pieces::{Piece, pieces_of};
@@ -168,11 +168,23 @@ fn opened(
     })
 }
 
+// The kind that this one is not.
+fn other(kind: SymbolKind) -> SymbolKind
+    ensures { result ≡ other_kind kind }
+{
+    match kind {
+        SymbolKind::Block => SymbolKind::Component,
+        SymbolKind::Component => SymbolKind::Block,
+    }
+}
+
 // A symbol that is open, by its number.
 #[derive(Clone, Copy)]
 struct Open {
     number: usize,
     kind: SymbolKind,
+    // Whether one of the other kind is open around it.
+    is_in_other: bool,
 }
 
 // The symbols so far, and those of them that are open, the outermost first.
@@ -185,10 +197,12 @@ struct Outline {
 impl Outline {
     // Takes the next tag that opens a symbol or closes one.
     fn take(&mut self, alloc: Global, mark: Mark<'_, '_>) -> Result<(), AllocError>
-        requires { AreNumbered self.old }
+        requires numbered { AreNumbered self.old }
+        requires others { KnowsOthers self.old }
         ensures took { OnOk result (state_of self.new
             ≡ took (mark_view mark.entry) (state_of self.old)) }
         ensures numbered { OnOk result (AreNumbered self.new) }
+        ensures others { OnOk result (KnowsOthers self.new) }
     {
         match mark {
             Mark::Opens(kind, start, name) => self.add(alloc, kind, start, name),
@@ -209,29 +223,42 @@ impl Outline {
         start: usize,
         name: &[Piece<'_>],
     ) -> Result<(), AllocError>
-        requires { AreNumbered self.old }
+        requires numbered { AreNumbered self.old }
+        requires others { KnowsOthers self.old }
         ensures took { OnOk result (state_of self.new
             ≡ took (specs.Opens kind start (map part_of name.now)) (state_of self.old)) }
         ensures numbered { OnOk result (AreNumbered self.new) }
+        ensures others { OnOk result (KnowsOthers self.new) }
     {
         let number = self.symbols.len();
+        let is_in_other = self.has_open(other(kind));
         self.symbols.push(opened(alloc, kind, start, name)?)?;
-        self.open.push(Open { number, kind })?;
+        self.open.push(Open {
+            number,
+            kind,
+            is_in_other,
+        })?;
         Ok(())
     }
 
     // Whether one of the kind is open.
     fn has_open(&self, kind: SymbolKind) -> bool
+        requires { KnowsOthers self.now }
         ensures { result ≡ specs.is_open kind (kinds_of (state_of self.now).opened) }
     {
-        self.open.iter().any(|one| is_same(kind, one.kind))
+        match self.open.as_slice() {
+            [.., last] => is_same(kind, last.kind) || last.is_in_other,
+            [] => false,
+        }
     }
 
     // Closes the last open one of the kind, and at the start of the tag those that are open in it.
     fn close(&mut self, kind: SymbolKind, start: usize, end: usize)
-        requires { AreNumbered self.old }
+        requires numbered { AreNumbered self.old }
+        requires others { KnowsOthers self.old }
         ensures closed { state_of self.new ≡ unwound kind start end (state_of self.old) }
         ensures numbered { AreNumbered self.new }
+        ensures others { KnowsOthers self.new }
     {
         'inner: while let Some(inner) = self.open.pop() {
             if is_same(kind, inner.kind) {
