@@ -3,11 +3,14 @@ use Rattle.std.proofs.Common.{◌≡◌, ◌∙◌, ◌∷◌, ◌++◌, ◌+◌
 use Rattle.std.specs.Prelude.{slice_get}
 use Rattle.std.specs.BTreeSet.{BTreeSet, contains_text}
 use Rattle.std.specs.List.{filter, find, flat_map}
+use Rattle.std.specs.Cmp.Lexicographic.{pointwise}
+use Rattle.std.specs.Prelude.{◌&&◌}
 use Rattle.std.specs.Str.{bytes_eq}
 use Rattle.std.proofs.lemmas.List.{append-nil, get_or-map, length-map, length_push, map_push, take_all, take_more}
 use Rattle.std.proofs.lemmas.List.Concat.{flat_map-append}
 use Rattle.std.proofs.lemmas.List.Elements.{filter-append}
 use Rattle.std.proofs.lemmas.Option.{slice_get-map}
+use Rattle.std.proofs.lemmas.Slice.Eq.{bytes_eq-Decides}
 use Rattle.tera_ast.specs.View.{name_view}
 use Rattle.tera_site.specs.Kept.{around_by, is_one_of, kept_around, kept_page, kept_view, names_in, on_page}
 use Rattle.tera_site.specs.Pages.{PageVal}
@@ -241,3 +244,15 @@ stale_kept s ordered stale = record {
   ordered = ordered;
   kept = λ fresh. absurd (true≢false (sym stale ∙ fresh));
 }
+
+-- equal sets have the same names
+pub same_names : (xs ys : List (String Global)) → pointwise (λ x y. bytes_eq (string_bytes x) (string_bytes y)) xs ys ≡ true → map string_bytes xs ≡ map string_bytes ys
+same_names [] [] h = refl
+same_names [] (y ∷ ys) h = absurd (cc)
+same_names (x ∷ xs) [] h = absurd (cc)
+same_names (x ∷ xs) (y ∷ ys) h = by (bytes_eq (string_bytes x) (string_bytes y)) (bytes_eq-Decides (string_bytes x) (string_bytes y)).0 h (same_names xs ys)
+  where
+    by : (b : Bool) → (b ≡ true → string_bytes x ≡ string_bytes y) → (b && pointwise (λ x y. bytes_eq (string_bytes x) (string_bytes y)) xs ys) ≡ true
+        → (pointwise (λ x y. bytes_eq (string_bytes x) (string_bytes y)) xs ys ≡ true → map string_bytes xs ≡ map string_bytes ys) → map string_bytes (x ∷ xs) ≡ map string_bytes (y ∷ ys)
+    by true is e f = λ i. is refl i ∷ f e i
+    by false is e f = absurd (true≢false (sym e))

@@ -1,5 +1,5 @@
 -- What checked documents represent, and what holds of them.
-use Rattle.std.specs.Prelude.{◌≡◌, ◌||◌, if◌then◌else◌, ℕ, ◌<◌, ◌≤◌, List, [], ◌∷◌, Bool, true, false, cond, length, map, String, string_bytes, slice_index_or, MatchOption}
+use Rattle.std.specs.Prelude.{◌≡◌, ◌||◌, if◌then◌else◌, Option, None, Some, ℕ, ◌<◌, ◌≤◌, List, [], ◌∷◌, Bool, true, false, cond, length, map, String, string_bytes, slice_index_or, MatchOption}
 use Rattle.std.specs.BTreeSet.{BTreeSet}
 use Rattle.std.specs.Borrow.{Bor}
 use Rattle.std.specs.Cmp.Lexicographic.{slice_cmp}
@@ -9,6 +9,7 @@ use Rattle.std.specs.Str.{bytes_eq}
 use Rattle.std.specs.declared.alloc.Global.{Global}
 use Rattle.tera_tree.specs.Outputs.{output_view}
 use Rattle.tera_check.specs.Alike.{names_in}
+use Rattle.tera_templates.specs.Lost.{are_open}
 use Rattle.tera_templates.specs.Templates.{tree_of}
 use Rattle.tera_templates.specs.declared.templates.Template.{Template}
 use Rattle.tera_site.specs.Kept.{kept_page}
@@ -113,6 +114,18 @@ marked_if true true js = js
 marked_if false false js = js
 marked_if true false js = map made_stale js
 marked_if false true js = map made_stale js
+
+-- whether one may define more, nothing if it is said of one of them that it may before and after, or neither; and all are
+-- marked if that is another now
+abbrev pub open_if : Bool → Bool → List Judged → Option Bool
+open_if true true js = None
+open_if false false js = None
+open_if true false js = Some (are_open (templates_of js))
+open_if false true js = Some (are_open (templates_of js))
+
+abbrev pub marked_since : Option Bool → List Judged → List Judged
+marked_since None js = js
+marked_since (Some was) js = marked_if was (are_open (templates_of js)) js
 
 -- the names have all names of components in stale documents
 abbrev pub NeedsAll : BTreeSet (Bor (List ℕ)) → List Judged → Type 0

@@ -7,11 +7,11 @@ ghost use Rattle.tera_workspace.specs.Kept.{sources_of, IsAnew, IsNumbered, IsNe
 ghost use Rattle.tera_workspace.specs.Names.{is_among};
 ghost use Rattle.tera_workspace.specs.Sources.{AreAscending, text_named};
 
-use crate::judged::{Judged, are_open, place_of, push_defined};
-use crate::touched::{mark, mark_if_opened, touched_names};
+use crate::judged::{Judged, place_of, push_defined};
+use crate::touched::{mark, mark_if_opened, open_before, touched_names};
 use std::alloc::{AllocError, Global};
 use std::mem;
-use tera_check::definitions_of;
+use tera_check::{definitions_of, is_open};
 use text_edits::Documents;
 
 /// Reads the documents of these names, and marks the documents whose findings may change by that.
@@ -66,7 +66,8 @@ fn replace(
 {
     let mut judged = judged;
     let touched = touched_names(alloc, &all[number].template, &judged.template)?;
-    let was_open = are_open(all);
+    let opened = is_open(&all[number].template);
+    let was_open = open_before(all, opened, is_open(&judged.template));
     mark(all, &touched, name);
     mem::swap(&mut judged.reported, &mut all[number].reported);
     all[number] = judged;
@@ -90,7 +91,7 @@ fn insert(
 {
     let mut touched = Vec::new(alloc);
     push_defined(&mut touched, definitions_of(&judged.template))?;
-    let was_open = are_open(all);
+    let was_open = open_before(all, false, is_open(&judged.template));
     all.insert(place, judged)?;
     mark(all, &touched, name);
     mark_if_opened(all, was_open);

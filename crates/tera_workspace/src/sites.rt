@@ -98,6 +98,9 @@ impl KeptSite {
     pub fn set_others(&mut self, others: BTreeSet<String>)
         ensures { self.new ≡ record self.old { others = names_in others } }
     {
+        if self.others == others {
+            return;
+        }
         self.others = others;
         self.stale = true;
     }

@@ -1,13 +1,13 @@
 //! What a new text of a document changes for others.
 
-ghost use Rattle.std.specs.Prelude.{◌≡◌, ◌∷◌, [], ◌++◌, ◌||◌, ℕ, List, true, false, IfOk, OnOk, if◌then◌else◌, map, string_bytes, length};
+ghost use Rattle.std.specs.Prelude.{◌≡◌, ◌∷◌, [], ◌++◌, ◌||◌, ◌&&◌, not, ℕ, List, true, false, IfOk, OnOk, if◌then◌else◌, map, string_bytes, length};
 ghost use Rattle.std.specs.BTreeSet.{contains_text};
 ghost use Rattle.std.specs.List.{list_any};
 ghost use Rattle.tera_tree.specs.View.{definition_view};
 ghost use Rattle.tera_templates.specs.Lost.{are_open};
 ghost use Rattle.tera_templates.specs.Templates.{definitions_of};
 ghost use Rattle.tera_workspace.specs.Heads.{definition_named, HaveOneHead, HaveOneHeadIfAny, HaveOneHeadIn};
-ghost use Rattle.tera_workspace.specs.Kept.{is_reported_in, made_stale, marked, marked_if, templates_of};
+ghost use Rattle.tera_workspace.specs.Kept.{is_reported_in, made_stale, marked, marked_if, marked_since, open_if, templates_of};
 ghost use Rattle.tera_workspace.specs.Names.{is_among};
 
 use crate::judged::{Judged, are_open, push_defined};
@@ -112,20 +112,41 @@ fn have_one_head(one: &ComponentDefinition, other: &ComponentDefinition) -> bool
         && one.rest_param_name == other.rest_param_name
 }
 
-/// Marks the documents that name one of these components, or have a finding with a place in this file.
+/// Marks the documents that name one of these components, or have a finding with a place in this file. One that is
+/// marked already takes no time.
 pub(crate) fn mark(all: &mut Vec<Judged>, touched: &Vec<String>, file: &str)
     ensures { all.new.items ≡ map (marked (map string_bytes touched.now.items) file.now) all.old.items }
 {
     for judged in all.iter_mut() {
-        if is_touched(judged, touched, file) {
+        if becomes_stale(judged, touched, file) {
             judged.stale = true;
         }
     }
 }
 
+/// Whether one of the documents may define more components than its tree; nothing, if that stays as it is, since the one
+/// that changes may define more after it if and only if it may before.
+pub(crate) fn open_before(all: &Vec<Judged>, from: bool, to: bool) -> Option<bool>
+    ensures { result ≡ open_if from to all.now.items }
+{
+    if from == to {
+        None
+    } else {
+        Some(are_open(all))
+    }
+}
+
 /// Marks all documents, if one may define more components than its tree now and none could before, or the other way
 /// round.
-pub(crate) fn mark_if_opened(all: &mut Vec<Judged>, was_open: bool)
+pub(crate) fn mark_if_opened(all: &mut Vec<Judged>, was_open: Option<bool>)
+    ensures { all.new.items ≡ marked_since was_open all.old.items }
+{
+    if let Some(was_open) = was_open {
+        mark_if_other(all, was_open);
+    }
+}
+
+fn mark_if_other(all: &mut Vec<Judged>, was_open: bool)
     ensures { all.new.items ≡ marked_if was_open (are_open (templates_of all.old.items))
         all.old.items }
 {
@@ -140,6 +161,15 @@ fn mark_all(all: &mut Vec<Judged>)
     for judged in all.iter_mut() {
         judged.stale = true;
     }
+}
+
+// Whether it is not marked, and is to be.
+fn becomes_stale(judged: &Judged, touched: &Vec<String>, file: &str) -> bool
+    ensures { result ≡ (not judged.now.stale
+        && (list_any (λ n. is_among n (map string_bytes judged.now.names.items))
+        (map string_bytes touched.now.items) || is_reported_in file.now judged.now)) }
+{
+    !judged.stale && is_touched(judged, touched, file)
 }
 
 fn is_touched(judged: &Judged, touched: &Vec<String>, file: &str) -> bool

@@ -1,12 +1,11 @@
 use Rattle.std.proofs.Common.{◌≡◌, ◌∙◌, ◌++◌, ℕ, List, [], false, None, map, string_bytes, refl, ap, sym, subst}
 use Rattle.std.specs.List.{insert}
 use Rattle.tera_tree.specs.View.{definition_view}
-use Rattle.tera_templates.specs.Lost.{are_open}
 use Rattle.tera_templates.specs.Templates.{definitions_of}
 use Rattle.tera_workspace.specs.Heads.{definition_named, HaveOneHeadIfAny}
-use Rattle.tera_workspace.specs.Kept.{StayKept, IsTextAt, marked, marked_if, templates_of}
+use Rattle.tera_workspace.specs.Kept.{StayKept, IsTextAt, marked, marked_since}
 use Rattle.tera_workspace.specs.Names.{is_among}
-use Rattle.tera_workspace.proofs.OpenedLemmas.{now_marked}
+use Rattle.tera_workspace.proofs.OpenedLemmas.{now_marked, since_is, stays_insert}
 use Rattle.tera_workspace.proofs.ReadingLemmas.{insert_kept, insert_read, stay_same}
 use Rattle.tera_workspace.proofs.TouchedLemmas.{all_pushed}
 use Rattle.tera_workspace.proofs.reading.insert.Goals as goal
@@ -25,7 +24,8 @@ returns-clause-kept c =
     λ n free. all_pushed n [] (definitions_of j.template) [] [] touched refl refl pushed free in
     let put : c.mark.new.all.items ≡ map (marked touched name) (insert js place j) = c.mark.ensures ∙ ap (map (marked touched name)) c.in_ok-insert.ensures.items in
     let is : c.mark_if_opened.new.all.items ≡ now_marked js (map (marked touched name) (insert js place j)) =
-    c.mark_if_opened.ensures ∙ (λ i. marked_if (c.are_open-was_open.ensures i) (are_open (templates_of (put i))) (put i)) in
+    c.mark_if_opened.ensures ∙ (λ i. marked_since (c.open_before-was_open.ensures i) (put i))
+    ∙ since_is js (map (marked touched name) (insert js place j)) false c.is_open.result (λ same. stays_insert touched name js place j c.requires.place.within (same ∙ c.is_open.ensures)) in
     subst (StayKept js) (sym is) (insert_kept name touched js place j c.requires.place c.requires.anew heads)
 
 pub returns-clause-read : goal.returns-clause-read
@@ -42,7 +42,8 @@ returns-clause-read c =
     λ n free. all_pushed n [] (definitions_of j.template) [] [] touched refl refl pushed free in
     let put : c.mark.new.all.items ≡ map (marked touched name) (insert js place j) = c.mark.ensures ∙ ap (map (marked touched name)) c.in_ok-insert.ensures.items in
     let is : c.mark_if_opened.new.all.items ≡ now_marked js (map (marked touched name) (insert js place j)) =
-    c.mark_if_opened.ensures ∙ (λ i. marked_if (c.are_open-was_open.ensures i) (are_open (templates_of (put i))) (put i)) in
+    c.mark_if_opened.ensures ∙ (λ i. marked_since (c.open_before-was_open.ensures i) (put i))
+    ∙ since_is js (map (marked touched name) (insert js place j)) false c.is_open.result (λ same. stays_insert touched name js place j c.requires.place.within (same ∙ c.is_open.ensures)) in
     subst (IsTextAt name j.text js) (sym is) (insert_read name touched js place j c.requires.place c.requires.anew heads)
 
 pub returns-in_err-insert-clause-kept : goal.returns-in_err-insert-clause-kept

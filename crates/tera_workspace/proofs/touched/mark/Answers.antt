@@ -1,7 +1,7 @@
 use Rattle.std.proofs.Common.{◌≡◌, ◌∙◌, ◌<◌, length, get_or, map, true, false, string_bytes, sym, ap, arith}
 use Rattle.tera_workspace.proofs.MarkLemmas.{marked_next}
 use Rattle.tera_workspace.proofs.touched.mark.Goals as goal
-use Rattle.tera_workspace.proofs.touched.mark.Goals.{then-is_touched, else-is_touched}
+use Rattle.tera_workspace.proofs.touched.mark.Goals.{then-becomes_stale, else-becomes_stale}
 
 pub loop-judged-preserved : goal.loop-judged-preserved
 loop-judged-preserved c =
@@ -14,7 +14,7 @@ loop-judged-preserved c =
     let is : j ≡ get_or items i j = ap (get_or items i) c.judged-item.is in
     let within : i < length old = omega (arith, ap length c.deref_mut-judged-items.ensures.value) in
     let next = marked_next touched file old items i j within c.loop-judged.invariant is in
-    elim c.if-is_touched.branch [
-      | then-is_touched w ↦ w.judged-items-is ∙ next true (sym w.if-is_touched.ensures)
-      | else-is_touched w ↦ w.judged-items-is ∙ next false (sym w.if-is_touched.ensures)
+    elim c.if-becomes_stale.branch [
+      | then-becomes_stale w ↦ w.judged-items-is ∙ next true (sym w.if-becomes_stale.ensures)
+      | else-becomes_stale w ↦ w.judged-items-is ∙ next false (sym w.if-becomes_stale.ensures)
     ]
