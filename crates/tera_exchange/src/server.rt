@@ -31,7 +31,7 @@ use std::path::Path;
 use std::rt::Files;
 use std::{fs, io};
 use tera_files::{Found, Selection, Unread, ends_in, files_of, read_source};
-use tera_program_parts::excluded::{is_excluded, leave_out};
+use tera_program_parts::excluded::{is_excluded, leave_out_paths};
 use tera_program_parts::extensions::EXTENSIONS;
 use tera_program_parts::output::{print_error, why_unread};
 use tera_program_parts::settings::references;
@@ -671,10 +671,7 @@ fn is_excluded_in<F: Files + AllocGlobal>(
     path: &str,
 ) -> Result<bool, AllocError> {
     match server.settings_for(path) {
-        Some(settings) => {
-            let exclude = references(files.alloc(), &settings.exclude)?;
-            is_excluded(files, exclude.as_slice(), path)
-        }
+        Some(settings) => is_excluded(files, &settings.exclude, path),
         None => Ok(false),
     }
 }
@@ -780,10 +777,7 @@ fn listed<F: Files + AllocGlobal + Clone + Drop>(
     };
     let found = files_of(files, selection, paths)?;
     match server.settings_for(folder) {
-        Some(settings) => {
-            let exclude = references(files.alloc(), &settings.exclude)?;
-            leave_out(files, exclude.as_slice(), found)
-        }
+        Some(settings) => leave_out_paths(files, &settings.exclude, found),
         None => Ok(found),
     }
 }

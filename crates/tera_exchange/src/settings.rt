@@ -3,6 +3,7 @@
 ghost use Rattle.std.specs.Prelude.{◌≡◌, ◌-◌, Some, map, IfOk, string_bytes};
 ghost use Rattle.tera_settings.specs.Values.{texts_view};
 ghost use Rattle.tera_server.specs.Settings.{rule_view};
+ghost use Rattle.tera_program_parts.specs.Excluded.{AreOfPaths};
 ghost use Rattle.tera_program_parts.specs.Settings.{or_none, set_of};
 
 use settings_files::{Configured, Unfit, WrongFile, settings_above};
@@ -10,12 +11,13 @@ use std::alloc::{AllocError, Global};
 use std::path::Path;
 use std::rt::Files;
 use tera_check::Severity;
+use tera_program_parts::excluded::{Paths, paths_of};
 use tera_program_parts::explanations::OPTIONAL_RULES;
 use tera_program_parts::extensions::without_point;
 use tera_program_parts::markers;
 use tera_program_parts::markers::other_markers_of;
 use tera_program_parts::output::why_unread;
-use tera_program_parts::settings::{Site, severity_at, site_in};
+use tera_program_parts::settings::{Site, references, severity_at, site_in};
 use tera_program_parts::site::{below, itself_of};
 use tera_server::{FolderSettings, FoundSettings, Reason, RuleSetting};
 use tera_settings::Settings;
@@ -101,8 +103,7 @@ fn folder_settings<R: Files + AllocGlobal>(
 ) -> Result<FolderSettings, AllocError>
     ensures markers { IfOk result (λ s. s.other_markers ≡ other_markers) }
     ensures rules { IfOk result (λ s. map rule_view s.rules.items ≡ map set_of site.rules.items) }
-    ensures exclude { IfOk result (λ s.
-        map string_bytes s.exclude.items ≡ or_none (texts_view site.exclude)) }
+    ensures exclude { IfOk result (λ s. AreOfPaths (or_none (texts_view site.exclude)) s.exclude) }
     ensures known { IfOk result (λ s.
         (s.filters ≡ site.known.filters) × (s.tests ≡ site.known.tests)
         × (s.functions ≡ site.known.functions)) }
@@ -124,7 +125,7 @@ fn folder_settings<R: Files + AllocGlobal>(
     Ok(FolderSettings {
         extensions: without_points(rt.alloc(), &extensions)?,
         libraries,
-        exclude: or_empty(rt.alloc(), exclude),
+        exclude: paths_in(rt.alloc(), exclude)?,
         other_markers,
         rules: rules_of(rt.alloc(), rules.as_slice())?,
         root,
@@ -194,6 +195,14 @@ fn or_empty(alloc: Global, texts: Option<Vec<String>>) -> Vec<String>
         Some(texts) => texts,
         None => Vec::new(alloc),
     }
+}
+
+// The paths that are left out.
+fn paths_in(alloc: Global, exclude: Option<Vec<String>>) -> Result<Paths, AllocError>
+    ensures { IfOk result (AreOfPaths (or_none (texts_view exclude))) }
+{
+    let exclude = or_empty(alloc, exclude);
+    paths_of(alloc, references(alloc, &exclude)?.as_slice())
 }
 
 // The paths by which the system knows these files, without those that it does not know.

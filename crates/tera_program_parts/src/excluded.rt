@@ -12,8 +12,8 @@ use std::rt::Files;
 use std::{fs, io};
 use tera_files::Found;
 
-// Paths by which the system knows files, each as its components.
-type Paths = BTreeSet<Vec<String>>;
+/// Paths by which the system knows files, each as its components.
+pub type Paths = BTreeSet<Vec<String>>;
 
 /// What is found, without what is at one of these paths or below it. The system knows files by these paths. A file for
 /// which it has no path stays.
@@ -26,11 +26,23 @@ pub fn leave_out<R: Files + AllocGlobal>(
         All (Contains (map string_bytes found.files.items)) (map string_bytes kept.files.items)) }
 {
     let paths = paths_of(rt.alloc(), exclude)?;
+    leave_out_paths(rt, &paths, found)
+}
+
+/// The same for paths that were read.
+pub fn leave_out_paths<R: Files + AllocGlobal>(
+    rt: &R,
+    paths: &Paths,
+    found: Found,
+) -> Result<Found, AllocError>
+    ensures { IfOk result (λ kept.
+        All (Contains (map string_bytes found.files.items)) (map string_bytes kept.files.items)) }
+{
     let Found { files, unlisted } = found;
-    let files = kept_files(rt, &paths, files)?;
+    let files = kept_files(rt, paths, files)?;
     let mut kept = Vec::new(rt.alloc());
     for one in unlisted {
-        if !is_below(rt, &paths, one.folder.as_str())? {
+        if !is_excluded(rt, paths, one.folder.as_str())? {
             kept.push(one)?;
         }
     }
@@ -64,21 +76,21 @@ fn keep<R: Files + AllocGlobal>(
     ensures { OnOk result ((kept.new.items ≡ kept.old.items)
         ⊎ (kept.new.items ≡ kept.old.items ++ file ∷ [])) }
 {
-    if is_below(rt, paths, file.as_str())? {
+    if is_excluded(rt, paths, file.as_str())? {
         return Ok(());
     }
     kept.push(file)?;
     Ok(())
 }
 
-/// Whether the file or folder is at one of these paths, or below it.
+/// Whether the file or folder is at one of these paths, or below it. The time hardly grows with their number.
 pub fn is_excluded<R: Files + AllocGlobal>(
     rt: &R,
-    exclude: &[&str],
+    paths: &Paths,
     path: &str,
 ) -> Result<bool, AllocError> {
     match known(rt, path)? {
-        Some(path) => Ok(is_in_one(exclude, path.as_str())),
+        Some(path) => is_below_one(rt.alloc(), paths, path.as_str()),
         None => Ok(false),
     }
 }
@@ -92,32 +104,7 @@ fn known<R: Files + AllocGlobal>(rt: &R, path: &str) -> Result<Option<String>, A
     }
 }
 
-// Whether the path is one of these, or is below one.
-fn is_in_one(folders: &[&str], path: &str) -> bool
-    ensures { IsTrue result ↔ Any (PathStartsWith path.now) (texts folders.now) }
-{
-    for folder in folders {
-        if is_in(folder, path) {
-            return true;
-        }
-    }
-    false
-}
-
-fn is_in(folder: &str, path: &str) -> bool
-    ensures { IsTrue result ↔ PathStartsWith path.now folder.now }
-{
-    Path::new(path).starts_with(folder)
-}
-
-// Whether the file, or a folder above it, is at one of the paths. The time hardly grows with the number of paths.
-fn is_below<R: Files + AllocGlobal>(rt: &R, paths: &Paths, path: &str) -> Result<bool, AllocError> {
-    match known(rt, path)? {
-        Some(path) => is_below_one(rt.alloc(), paths, path.as_str()),
-        None => Ok(false),
-    }
-}
-
+// Whether the path is at one of these, or below it.
 fn is_below_one(alloc: Global, paths: &Paths, path: &str) -> Result<bool, AllocError>
     ensures { IfOk result (λ is. (folders : List (List ℕ)) → AreOfPaths folders paths.now
         → IsTrue is ↔ Any (PathStartsWith path.now) folders) }
@@ -147,7 +134,8 @@ fn has_first(paths: &Paths, names: &[String], end: usize) -> bool
     paths.contains(first)
 }
 
-fn paths_of(alloc: Global, exclude: &[&str]) -> Result<Paths, AllocError>
+/// The paths with these texts.
+pub fn paths_of(alloc: Global, exclude: &[&str]) -> Result<Paths, AllocError>
     ensures { IfOk result (AreOfPaths (texts exclude.now)) }
 {
     let mut paths = BTreeSet::new(alloc);

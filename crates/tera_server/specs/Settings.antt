@@ -36,7 +36,7 @@ level_view r = (r.rule.now, r.level)
 -- functions that the program registers, as far as they are known
 pub record SettingsVal : Type 0 where
   pub extensions : Option (List (List ℕ))
-  pub exclude : List (List ℕ)
+  pub exclude : List (List (List ℕ))
   pub libraries : List (List ℕ)
   pub other_markers : Bool
   pub rules : List RuleVal
@@ -54,7 +54,7 @@ names_in list = unwrap_or (list_in list) []
 abbrev pub settings_view : FolderSettings → SettingsVal
 settings_view s = record {
   extensions = option_map (λ v. map string_bytes v.items) s.extensions;
-  exclude = map string_bytes s.exclude.items;
+  exclude = map (λ v. map string_bytes v.items) s.exclude.keys;
   libraries = map string_bytes s.libraries.items;
   other_markers = s.other_markers;
   rules = map rule_view s.rules.items;

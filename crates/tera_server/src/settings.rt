@@ -8,7 +8,7 @@ ghost use Rattle.tera_server.specs.Settings.{ByRules, IsFileAt, IsSetAt, file_in
 
 use crate::templates::is_inside;
 use std::alloc::{AllocError, Global};
-use std::collections::BTreeMap;
+use std::collections::{BTreeMap, BTreeSet};
 use tera_check::{Kind, Registered, Severity};
 
 /// What settings say of the templates below a folder.
@@ -16,8 +16,8 @@ use tera_check::{Kind, Registered, Severity};
 pub struct FolderSettings {
     /// How the names of templates end, without the point, if not as usual.
     pub extensions: Option<Vec<String>>,
-    /// Files and folders that are left out, by the paths by which the system knows them.
-    pub exclude: Vec<String>,
+    /// Files and folders that are left out, each by the components of the path by which the system knows it.
+    pub exclude: BTreeSet<Vec<String>>,
     /// Files and folders with components that may be called, by the paths by which the system knows them.
     pub libraries: Vec<String>,
     /// Whether templates in the folder have other markers than the usual ones. The server reads no others, so nothing
