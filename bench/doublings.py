@@ -266,6 +266,31 @@ def of_server_left_out(program, n):
         return instructions(program, ["server"], steps)
 
 
+def of_parts(program, n):
+    """The tags of a document on one line get blanks, the last first, in one change."""
+    text = edits(n)
+    parts = []
+    for tag in reversed(range(n)):
+        for at in (tag * 5 + 3, tag * 5 + 2):
+            place = {"line": 0, "character": at}
+            parts.append({"range": {"start": place, "end": place}, "text": " "})
+    document = {"textDocument": {"uri": URI, "version": 2}, "contentChanges": parts}
+    steps = [(opening(URI, text), publishes(URI)), ({"method": "textDocument/didChange", "params": document}, None),
+             (asking("semanticTokens/full"), is_answer)]
+    return instructions(program, ["server"], steps)
+
+
+def of_folder(program, n):
+    """A folder is opened whose files define a component each, and call another one."""
+    with tempfile.TemporaryDirectory() as made:
+        folder = pathlib.Path(made).resolve()
+        for at in range(n):
+            (folder / f"f{at}.html").write_text(
+                f"{{% component c{at}(a) %}}{{{{ a }}}}{{% endcomponent %}}\n{{{{ <c{(at * 7 + 3) % n} a={{1}}/> }}}}\n")
+        steps = [(adding(folder), None), (opening(URI, "a"), publishes(URI))]
+        return instructions(program, ["server"], steps)
+
+
 def of_documents(program, n):
     """Documents that call a component that none of them defines are opened one by one."""
     uris = [f"file:///t/d{at}.html" for at in range(n)]
@@ -301,12 +326,14 @@ JOBS = {
     "server, findings": (of_server(findings), SIZES),
     "server, layout": (of_server(edits, asking("formatting", options=OPTIONS)), SIZES),
     "server, outline": (of_server(blocks, asking("documentSymbol")), SIZES),
+    "server, parts of one change": (of_parts, SIZES),
     "server, references": (of_server(references, asking("references", position=START, context=DECLARED)), SIZES),
     "server, coloured tokens": (of_server(references, asking("semanticTokens/full")), SIZES),
     "server, signature of arguments": (of_server(arguments, asking_in_the_last_value("signatureHelp")), SIZES),
     "server, signature of parameters": (of_server(parameters, asking_in_the_last_value("signatureHelp")), SIZES),
     "server, unknown filters": (of_server_by(KNOWN, unknown_filters), SIZES),
     "server, left out": (of_server_left_out, FAULTS),
+    "server, folder": (of_folder, FAULTS),
     "server, documents": (of_documents, DOCUMENTS),
 }
 
