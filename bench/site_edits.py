@@ -78,7 +78,10 @@ def edits(many):
         yield Edit(f"the name of a component that {which}", COMPONENTS, f"component ui.{name}(", f"component ui.{name}s(")
     yield Edit("an include comes or goes", PAGE, "<hr>", '<hr>{% include "parts/p0.html" %}')
     yield Edit("the name in an include, which no template has then", PAGE, '"parts/edited.html"', '"parts/gone.html"')
+    yield Edit("the name in an extends, which is another layout then", PAGE, '"layouts/l1.html"', '"layouts/l2.html"')
+    yield Edit("the name in an extends, which no template has then", PAGE, '"layouts/l1.html"', '"layouts/l1s.html"')
     yield Edit("the name of a block, which the parent does not have then", PAGE, "block content", "block contents")
+    yield Edit("a block comes or goes in a layout that 20 documents extend", LAYOUT, "</p>", "</p>{% block own %}{% endblock %}")
     yield Edit("the name of a block of a layout that 20 documents extend", LAYOUT, "block extra", "block extras")
 
 
