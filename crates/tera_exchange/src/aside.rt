@@ -85,7 +85,8 @@ fn rest_below<'a>(folder: &str, path: &'a str) -> Option<&'a str> {
     }
 }
 
-fn has_left_out(rest: &str) -> bool {
+/// Whether a name on the way is left out.
+pub(crate) fn has_left_out(rest: &str) -> bool {
     rest.split('/').any(|name| is_name_left_out(name))
 }
 

@@ -6,6 +6,7 @@ ghost use Rattle.tera_server.specs.Settings.{rule_view};
 ghost use Rattle.tera_program_parts.specs.Excluded.{AreOfPaths};
 ghost use Rattle.tera_program_parts.specs.Settings.{or_none, set_of};
 
+use crate::aside::has_left_out;
 use settings_files::{Configured, Unfit, WrongFile, settings_above};
 use std::alloc::{AllocError, Global};
 use std::path::Path;
@@ -176,16 +177,24 @@ fn without_slash(alloc: Global, folder: &str) -> Result<String, AllocError> {
     }
 }
 
-// A root in which the folder is is read as a library is, unless it is the root of the system.
+// A root that is not read with the folder is read as a library is, unless it is the root of the system.
 fn add_root_if_apart(
     folder: &str,
     root: &String,
     libraries: &mut Vec<String>,
 ) -> Result<(), AllocError> {
-    if !root.is_empty() && !Path::new(root.as_str()).starts_with(folder) {
+    if !root.is_empty() && !is_read_with(folder, root.as_str()) {
         libraries.push(root.clone()?)?;
     }
     Ok(())
+}
+
+// Whether the root is the folder, or is in it and is not left out when that is read.
+fn is_read_with(folder: &str, root: &str) -> bool {
+    match root.strip_prefix(folder) {
+        Some(rest) => !has_left_out(rest),
+        None => false,
+    }
 }
 
 fn or_empty(alloc: Global, texts: Option<Vec<String>>) -> Vec<String>
