@@ -8,22 +8,29 @@ use std::alloc::AllocError;
 use std::fs;
 use std::rt::Files;
 use tera_files::is_left_out as is_name_left_out;
+use tera_server::Server;
 
-/// Whether the file of this path is in one of the folders, and is left out by each that it is in.
-pub(crate) fn is_left_out<F: Files + AllocGlobal>(
-    files: &F,
-    folders: &[String],
-    path: &str,
-) -> bool {
+/// Whether open folders or libraries have the file, and each that has it leaves it out.
+pub(crate) fn is_aside<F: Files + AllocGlobal>(files: &F, server: &Server, path: &str) -> bool {
+    let mut found = is_read_by(files, server.folders(), path);
+    for folder in server.folders() {
+        if matches!(found, Some(true)) {
+            return false;
+        }
+        if let Some(settings) = server.settings_for(folder.as_str()) {
+            found = is_read_by(files, settings.libraries.as_slice(), path).or(found);
+        }
+    }
+    matches!(found, Some(false))
+}
+
+// Whether the file of this path is in one of the folders, and is left out by each that it is in.
+fn is_left_out<F: Files + AllocGlobal>(files: &F, folders: &[String], path: &str) -> bool {
     matches!(is_read_by(files, folders, path), Some(false))
 }
 
-/// Whether one of these folders and files is at this path, or reads what is there. `None` if none of them has it.
-pub(crate) fn is_read_by<F: Files + AllocGlobal>(
-    files: &F,
-    folders: &[String],
-    path: &str,
-) -> Option<bool> {
+// Whether one of these folders and files is at this path, or reads what is there. `None` if none of them has it.
+fn is_read_by<F: Files + AllocGlobal>(files: &F, folders: &[String], path: &str) -> Option<bool> {
     let mut found = None;
     for folder in folders {
         match is_read_in(files, folder.as_str(), path) {

@@ -19,7 +19,7 @@ ghost use Rattle.tera_server.specs.KnownFiles.{is_known};
 ghost use Rattle.tera_server.specs.declared.server.OnDisk.{OnDisk};
 ghost use Rattle.tera_server.specs.declared.server.Server.{Server};
 
-use crate::aside::{is_in_any, is_open, is_read, is_read_by};
+use crate::aside::{is_aside, is_in_any, is_open, is_read};
 use crate::sending::send;
 use crate::settings::found_for_folder;
 use json_rpc::Outbox;
@@ -624,44 +624,6 @@ fn give_nothing<F: Files + Input + AllocGlobal>(
     ensures unloaded { OnErr result (IsUnloaded path.now server.old server.new) }
 {
     server.load(files.alloc(), path, OnDisk::Nothing)
-}
-
-// Whether the file is left out by each open folder and each library that it is in.
-fn is_aside<F: Files + AllocGlobal>(files: &F, server: &Server, path: &str) -> bool {
-    match is_read_by(files, server.folders(), path) {
-        Some(true) => false,
-        in_folders => match is_read_by_libraries(files, server, path) {
-            Some(is_read) => !is_read,
-            None => in_folders.is_some(),
-        },
-    }
-}
-
-// Whether a library of an open folder reads the file. `None` if it is in none.
-fn is_read_by_libraries<F: Files + AllocGlobal>(
-    files: &F,
-    server: &Server,
-    path: &str,
-) -> Option<bool> {
-    let mut found = None;
-    for folder in server.folders() {
-        match is_read_by_those_of(files, server, folder.as_str(), path) {
-            Some(true) => return Some(true),
-            Some(false) => found = Some(false),
-            None => {}
-        }
-    }
-    found
-}
-
-fn is_read_by_those_of<F: Files + AllocGlobal>(
-    files: &F,
-    server: &Server,
-    folder: &str,
-    path: &str,
-) -> Option<bool> {
-    let settings = server.settings_for(folder)?;
-    is_read_by(files, settings.libraries.as_slice(), path)
 }
 
 // Whether the settings for the file leave it out.
