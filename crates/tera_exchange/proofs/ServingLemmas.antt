@@ -107,7 +107,7 @@ unloaded path s = record {
 
 -- .. or to find settings
 pub unconfigured : (s : Server) → IsUnconfigured s s
-unconfigured s = record { same = refl; edited = ([], sym (append-nil (edited_of s))); unpublished = ([], sym (append-nil (unpublished_of s))); given = λ g. g }
+unconfigured s = record { same = refl; edited = ([], sym (append-nil (edited_of s))); unpublished = ([], sym (append-nil (unpublished_of s))); markers = refl; given = λ g. g }
 
 -- a folder that is not read is not open
 pub unopened : (opened read : Bool) → (opened ≡ true → read ≡ true) → read ≡ false → opened ≡ false

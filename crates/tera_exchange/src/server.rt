@@ -1,6 +1,6 @@
 //! `tera server`.
 
-ghost use Rattle.std.specs.Prelude.{◌≡◌, ◌<◌, ◌++◌, ℕ, List, [], length, false, map, string_bytes, Option, None, IfOk, OnOk, OnErr, unwrap_or};
+ghost use Rattle.std.specs.Prelude.{◌≡◌, ◌<◌, ◌++◌, ℕ, List, [], length, false, is_some, map, string_bytes, Option, None, IfOk, OnOk, OnErr, unwrap_or};
 ghost use Rattle.std.specs.Io.KnownBytes.{Appends, Consumes, IsAtEnd};
 ghost use Rattle.std.specs.List.{flat_map};
 ghost use Rattle.std.specs.Option.{option_map};
@@ -12,7 +12,7 @@ ghost use Rattle.tera_files.specs.Names.{texts};
 ghost use Rattle.tera_files.specs.declared.reading.Unread.TheVariants.{NotUtf8};
 ghost use Rattle.tera_program_parts.specs.Reasons.{not_utf8};
 ghost use Rattle.tera_exchange.specs.Reasons.{IsUnread};
-ghost use Rattle.tera_exchange.specs.Serving.{Takes, SettlesSo, Rests, IsLoaded, IsUnloaded, AreKnownGiven, AreKnownGivenInPart, AreLoaded, AreLoadedInPart, AreLibrariesGiven, AreLibrariesGivenInPart, AreListed, AreListedGiven, AreSomeGiven, AreSomeGivenInPart, AreListedGivenInPart, IsFolderGiven, IsFolderGivenInPart, IsOpenGiven, IsOpenGivenInPart, extensions, extensions_in, libraries_in, AreGiven, AreGivenInPart, AreGivenAnew, AreGivenAnewInPart, AreNamesSaid, IsGivenInPart, Gives, IsTalking, IsWaiting, IsServed};
+ghost use Rattle.tera_exchange.specs.Serving.{Takes, SettlesSo, Rests, IsLoaded, IsUnloaded, AreKnownGiven, AreKnownGivenInPart, AreLoaded, AreLoadedInPart, AreLibrariesGiven, AreLibrariesGivenInPart, AreListed, AreListedGiven, AreSomeGiven, AreSomeGivenInPart, AreListedGivenInPart, IsFolderGiven, IsFolderGivenInPart, IsOpenGiven, IsOpenGivenInPart, extensions, extensions_in, libraries_in, AreGiven, AreGivenInPart, AreGivenAnew, AreGivenAnewInPart, AreNamesSaid, IsGivenInPart, Gives, IsNew, IsTalking, IsWaiting, IsServed};
 ghost use Rattle.tera_server.specs.Naming.{OnlyNames};
 ghost use Rattle.tera_server.specs.States.{NeedsChanged, needed_view, needed_of, text_on};
 ghost use Rattle.tera_server.specs.KnownFiles.{is_known};
@@ -33,11 +33,12 @@ use std::{fs, io};
 use tera_files::{Found, Selection, Unread, ends_in, files_of, read_source};
 use tera_program_parts::excluded::{is_excluded, leave_out_paths};
 use tera_program_parts::extensions::EXTENSIONS;
+use tera_program_parts::markers::{Unfit, other_markers_of, print_unfit};
 use tera_program_parts::output::{print_error, why_unread};
 use tera_program_parts::settings::references;
 use tera_program_parts::site::may_be;
 use tera_program_parts::status::Ended;
-use tera_server::{Ended as Finished, FoundSettings, Needed, OnDisk, Server, UsedName};
+use tera_server::{Ended as Finished, FoundSettings, Markers, Needed, OnDisk, Server, UsedName};
 
 // The state of the exchange after the messages that came.
 #[derive(Clone, Copy)]
@@ -67,9 +68,20 @@ const PIECE: usize = 0x1_0000;
 // The most bytes of a file that is read.
 const LARGEST: u64 = 0x100_0000;
 
-/// Serves an editor over standard input and output, until it ends the exchange.
-pub fn run<R: Files + Input + Print + Eprint + AllocGlobal + Clone + Drop>(rt: &R) -> Ended {
-    match serve(rt, &mut rt.reader(), &mut io::writer(rt)) {
+/// Serves an editor over standard input and output, until it ends the exchange. All templates have the six markers in
+/// these words; without words, those of their settings.
+pub fn run<R: Files + Input + Print + Eprint + AllocGlobal + Clone + Drop>(
+    rt: &R,
+    markers: Option<&str>,
+) -> Ended {
+    let server = match server_with(rt.alloc(), markers) {
+        Ok(server) => server,
+        Err(why) => {
+            print_unfit(rt, &why);
+            return Ended::failed();
+        }
+    };
+    match serve(rt, server, &mut rt.reader(), &mut io::writer(rt)) {
         Ok(served) => {
             if served.short {
                 let why = "out of memory: findings were published late, or not at all";
@@ -95,17 +107,36 @@ fn why(error: &io::Error) -> &'static str {
     }
 }
 
+// A server to which nothing was sent. All templates have the markers in these words, if there are words.
+fn server_with(alloc: Global, words: Option<&str>) -> Result<Server, Unfit>
+    ensures new { IfOk result IsNew }
+    ensures given { IfOk result (λ s. is_some s.settings.markers ≡ is_some words.entry) }
+{
+    let mut server = Server::new(alloc);
+    if words.is_none() {
+        return Ok(server);
+    }
+    let markers = match other_markers_of(alloc, words)? {
+        Some(markers) => Markers::of(alloc, markers),
+        None => None,
+    };
+    server.set_markers(markers);
+    Ok(server)
+}
+
 // Answers the messages that come from the reader, until one ends the exchange, or the reader has no more.
 fn serve<F: Files + Input + AllocGlobal + Clone + Drop, R: Read, W: Write>(
     files: &F,
+    server: Server,
     reader: &mut R,
     writer: &mut W,
 ) -> io::Result<Served>
+    requires { IsNew server }
     ensures { IfOk result (λ served. IsServed LONGEST served.finished served.short
         (R.remaining reader.old) (R.remaining reader.new) (W.contents writer.old) (W.contents writer.new)) }
 {
     let alloc = files.alloc();
-    let mut server = Server::new(alloc);
+    let mut server = server;
     let mut out = Outbox::new(alloc)?;
     let mut frames = Frames::new(alloc, LONGEST);
     let mut piece = Vec::from_elem(alloc, 0u8, PIECE)?;

@@ -11,7 +11,6 @@ use settings_files::{Configured, Unfit, WrongFile, settings_above};
 use std::alloc::{AllocError, Global};
 use std::path::Path;
 use std::rt::Files;
-use tera_check::Severity;
 use tera_program_parts::excluded::{Paths, paths_of};
 use tera_program_parts::explanations::OPTIONAL_RULES;
 use tera_program_parts::extensions::without_point;
@@ -20,8 +19,7 @@ use tera_program_parts::markers::other_markers_of;
 use tera_program_parts::output::why_unread;
 use tera_program_parts::settings::{Site, references, severity_at, site_in};
 use tera_program_parts::site::{below, itself_of};
-use tera_server::{FolderSettings, FoundSettings, Reason, RuleSetting};
-use tera_settings::Settings;
+use tera_server::{FolderSettings, FoundSettings, Markers, Reason, RuleSetting};
 
 // What the rules are set to, in the form of a server.
 fn rules_of(
@@ -59,40 +57,26 @@ fn found_in<R: Files + AllocGlobal>(
     file: Configured,
 ) -> Result<FoundSettings, AllocError> {
     let path = whole_path(rt, file.source.file.as_str())?;
-    let unread = why_unread_between(rt.alloc(), &file)?;
     match site_in(rt, false, file) {
         Ok(site) => {
-            let settings = folder_settings(rt, folder, site, unread.is_some())?;
-            Ok(FoundSettings::Set(path, settings, unread))
+            let markers = markers_in(rt.alloc(), &site.markers)?;
+            let settings = folder_settings(rt, folder, site, markers)?;
+            Ok(FoundSettings::Set(path, settings))
         }
         Err(why) => wrong_for(rt, why),
     }
 }
 
-// The reason that the templates are not read, if their markers are not the usual ones.
-fn why_unread_between(alloc: Global, file: &Configured) -> Result<Option<Reason>, AllocError> {
-    if !has_other_markers(alloc, &file.settings)? {
+// The markers in these words, if they can be used and are not the usual ones.
+fn markers_in(alloc: Global, words: &Option<String>) -> Result<Option<Markers>, AllocError> {
+    let Some(words) = words else {
         return Ok(None);
-    }
-    let message = String::from_str(
-        alloc,
-        "`markers`: templates with other markers are not checked in the editor",
-    )?;
-    match file.wrong(alloc, None, "markers", message) {
-        Unfit::Wrong(wrong) => Ok(Some(reason_of(wrong, Severity::Warning))),
-        _ => Err(AllocError),
-    }
-}
-
-// Whether the markers can be used, and are not the usual ones.
-fn has_other_markers(alloc: Global, settings: &Settings) -> Result<bool, AllocError> {
-    let Some(words) = &settings.markers else {
-        return Ok(false);
     };
     match other_markers_of(alloc, Some(words.as_str())) {
-        Ok(others) => Ok(others.is_some()),
+        Ok(Some(markers)) => Ok(Markers::of(alloc, markers)),
+        Ok(None) => Ok(None),
         Err(markers::Unfit::Memory) => Err(AllocError),
-        Err(_) => Ok(false),
+        Err(_) => Ok(None),
     }
 }
 
@@ -100,9 +84,9 @@ fn folder_settings<R: Files + AllocGlobal>(
     rt: &R,
     folder: &str,
     site: Site,
-    other_markers: bool,
+    markers: Option<Markers>,
 ) -> Result<FolderSettings, AllocError>
-    ensures markers { IfOk result (λ s. s.other_markers ≡ other_markers) }
+    ensures markers { IfOk result (λ s. s.markers ≡ markers) }
     ensures rules { IfOk result (λ s. map rule_view s.rules.items ≡ map set_of site.rules.items) }
     ensures exclude { IfOk result (λ s. AreOfPaths (or_none (texts_view site.exclude)) s.exclude) }
     ensures known { IfOk result (λ s.
@@ -127,7 +111,7 @@ fn folder_settings<R: Files + AllocGlobal>(
         extensions: without_points(rt.alloc(), &extensions)?,
         libraries,
         exclude: paths_in(rt.alloc(), exclude)?,
-        other_markers,
+        markers,
         rules: rules_of(rt.alloc(), rules.as_slice())?,
         root,
         filters: known.filters,
@@ -253,28 +237,25 @@ fn wrong_for<R: Files + AllocGlobal>(rt: &R, why: Unfit) -> Result<FoundSettings
                 path,
                 Reason {
                     line: None,
-                    severity: Severity::Error,
                     message,
                 },
             ))
         }
         Unfit::Wrong(wrong) => {
             let path = whole_path(rt, wrong.file.as_str())?;
-            let reason = reason_of(wrong, Severity::Error);
+            let reason = reason_of(wrong);
             Ok(FoundSettings::Wrong(path, reason))
         }
     }
 }
 
-// What is wrong, with its line counted from 0, and this severity.
-fn reason_of(wrong: WrongFile, severity: Severity) -> Reason
+// What is wrong, with its line counted from 0.
+fn reason_of(wrong: WrongFile) -> Reason
     ensures line { result.line ≡ Some (wrong.line - 1) }
-    ensures severity { result.severity ≡ severity }
     ensures message { result.message ≡ wrong.message }
 {
     Reason {
         line: Some(wrong.line.saturating_sub(1)),
-        severity,
         message: wrong.message,
     }
 }

@@ -14,7 +14,7 @@ pub fn site_of<R: Files + Input + AllocGlobal>(rt: &R, job: &Job<'_, '_>) -> Res
         Job::Tree(job) => found_for(rt, job.common, job.file)?,
         Job::Components(job) => found_for(rt, job.common, first_of(job.files))?,
         Job::Format(job) => found_for(rt, job.common, first_of(job.files))?,
-        Job::Explain(_) | Job::Server => None,
+        Job::Explain(_) | Job::Server(_) => None,
     };
     match found {
         Some(file) => site_in(rt, matches!(job, Job::Format(_)), file),

@@ -59,7 +59,7 @@ pub data JobVal : Type 0 where
   Lists : Bool → Option (List ℕ) → Option (List (List ℕ)) → CommonVal → JobVal
   LaysOut : Mode → Option (List ℕ) → Option (List (List ℕ)) → CommonVal → JobVal
   Explains : List ℕ → JobVal
-  Serves : JobVal
+  Serves : Option (List ℕ) → JobVal
 
 abbrev pub check_view : Check → JobVal
 check_view j =
@@ -81,7 +81,7 @@ job_view (jobs.Tree j) = tree_view j
 job_view (jobs.Components j) = components_view j
 job_view (jobs.Format j) = format_view j
 job_view (jobs.Explain rule) = Explains rule.now
-job_view jobs.Server = Serves
+job_view (jobs.Server markers) = Serves (option_map (λ m. m.now) markers)
 
 -- ---- what a file of settings says
 
@@ -111,7 +111,7 @@ with_defaults d (Shows json faulty markers file common) = Shows json faulty (opt
 with_defaults d (Lists html markers files common) = Lists html (option_or markers (text_view d.markers)) files (common_with d common)
 with_defaults d (LaysOut mode markers files common) = LaysOut mode (option_or markers (text_view d.markers)) files (common_with d common)
 with_defaults d (Explains rule) = Explains rule
-with_defaults d Serves = Serves
+with_defaults d (Serves markers) = Serves markers
 
 -- ---- whether standard input has a name, and is not read
 
@@ -129,7 +129,7 @@ names_unread_input (jobs.Tree j) = is_unread j.common (j.file ∷ [])
 names_unread_input (jobs.Components j) = are_unread j.common j.files
 names_unread_input (jobs.Format j) = are_unread j.common j.files
 names_unread_input (jobs.Explain rule) = false
-names_unread_input jobs.Server = false
+names_unread_input (jobs.Server markers) = false
 
 -- ---- the rows of a subcommand
 
@@ -199,4 +199,4 @@ job_of (name, rows) =
     else (if bytes_eq name (codes "components") then Some (components_of rows)
     else (if bytes_eq name (codes "format") then Some (format_of rows)
     else (if bytes_eq name (codes "explain") then Some (Explains (text_or [] (codes "rule") rows))
-    else (if bytes_eq name (codes "server") then Some Serves else None)))))
+    else (if bytes_eq name (codes "server") then Some (Serves (first_of (codes "markers") rows)) else None)))))

@@ -19,7 +19,8 @@ pub enum Job<'b, 'a> {
     Format(Format<'b, 'a>),
     /// Explain the rule of this name.
     Explain(&'a str),
-    Server,
+    /// Serve an editor. Six markers in one word are those of all templates, whatever files of settings say.
+    Server(Option<&'a str>),
 }
 
 /// What each job gets from the command line.
@@ -123,7 +124,7 @@ impl<'b, 'a> Job<'b, 'a> {
             "components" => Some(Job::Components(components_in(found))),
             "format" => Some(Job::Format(format_in(found))),
             "explain" => Some(Job::Explain(text_or(found, "rule", ""))),
-            "server" => Some(Job::Server),
+            "server" => Some(Job::Server(text(found, "markers"))),
             _ => None,
         }
     }
@@ -137,7 +138,7 @@ impl<'b, 'a> Job<'b, 'a> {
             Job::Tree(job) => is_unread(job.common, &[job.file]),
             Job::Components(job) => are_unread(job.common, job.files),
             Job::Format(job) => are_unread(job.common, job.files),
-            Job::Explain(_) | Job::Server => false,
+            Job::Explain(_) | Job::Server(_) => false,
         }
     }
 
@@ -162,7 +163,7 @@ impl<'b, 'a> Job<'b, 'a> {
                 common: job.common.with(defaults),
                 ..job
             }),
-            Job::Explain(_) | Job::Server => self,
+            Job::Explain(_) | Job::Server(_) => self,
         }
     }
 }

@@ -95,9 +95,11 @@ Exit status: 0 if the rule was explained, 2 if there is none of this name.";
 
 const OF_SERVER: &str = "\
 An editor starts it and ends it. It reports findings while templates are edited, over all files below the open folders,
-and formats templates.
+and formats templates. With other markers only the first syntax error of a file is reported; --markers counts before
+the markers in a tera.toml.
 
-Exit status: 0 if the editor shut it down in order, 1 if it did not, 2 if standard input or output failed.";
+Exit status: 0 if the editor shut it down in order, 1 if it did not, 2 if the markers cannot be used, or if standard
+input or output failed.";
 
 /// The program, with its subcommands.
 pub fn command<'a>(alloc: Global) -> Result<Command<'a>, AllocError> {
@@ -247,6 +249,7 @@ fn server<'a>(alloc: Global) -> Result<Command<'a>, AllocError> {
     Command::new(alloc, "server")
         .about("Speaks the Language Server Protocol with an editor, over standard input and output")
         .after_help(OF_SERVER)
+        .arg(markers(alloc))?
         .arg(flag(
             alloc,
             "stdio",

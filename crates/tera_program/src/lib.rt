@@ -154,6 +154,6 @@ fn run_job<R: Files + Env + Input + Print + Eprint + AllocGlobal + Clone + Drop>
         Job::Components(job) => components::run(rt, terminals, &job),
         Job::Format(job) => format::run(rt, terminals, &job),
         Job::Explain(rule) => explain::run(rt, rule),
-        Job::Server => server::run(rt),
+        Job::Server(markers) => server::run(rt, markers),
     }
 }

@@ -133,11 +133,12 @@ module _ (s a z b t : Server) (first : a ≡ record s { unpublished = a.unpublis
       ∙ ap (λ u. record s { settings = t.settings; sites = z.sites; unread = t.unread; edited = t.edited; unpublished = u }) (sym unpublished_is)
       ∙ ap (λ x. record s { settings = t.settings; sites = x; unread = t.unread; edited = t.edited; unpublished = t.unpublished }) (sym sites_are)
 
-  pub unconfigured : Grows (unpublished_of s) (unpublished_of a) → (AreGiven a.sites → AreGiven z.sites) → Grows (edited_of z) (edited_of b) → Grows (edited_of b) (edited_of t) → IsUnconfigured s t
-  unconfigured published given edited more = record {
+  pub unconfigured : Grows (unpublished_of s) (unpublished_of a) → t.settings.markers ≡ b.settings.markers → (AreGiven a.sites → AreGiven z.sites) → Grows (edited_of z) (edited_of b) → Grows (edited_of b) (edited_of t) → IsUnconfigured s t
+  unconfigured published markers given edited more = record {
     same = same_but;
     edited = subst (λ ns. Grows ns (edited_of t)) edited_is (grows_on (edited_of z) (edited_of b) (edited_of t) edited more);
     unpublished = grows_to (unpublished_of s) (unpublished_of a) (unpublished_of t) (ap (λ u. map string_bytes u.items) (sym unpublished_is)) published;
+    markers = markers ∙ ap (λ x. x.markers) settings_are;
     given = λ g. subst AreGiven (sym sites_are) (given (subst AreGiven (sym (ap (λ x. x.sites) first)) g));
   }
 

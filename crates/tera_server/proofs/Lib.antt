@@ -1,6 +1,7 @@
 pub mod ActionLemmas
 pub mod AnswerLemmas
 pub mod ArrayLemmas
+pub mod BetweenLemmas
 pub mod CompletionLemmas
 pub mod ConfiguringLemmas
 pub mod EditorLemmas

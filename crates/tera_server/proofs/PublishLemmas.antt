@@ -16,6 +16,7 @@ use Rattle.tera_workspace.specs.Names.{is_among, contains_name}
 use Rattle.tera_workspace.specs.Workspaces.{reported_of_name, IsKept, IsSettled, AreOthers}
 use Rattle.tera_workspace.specs.declared.workspace.Workspace.{Workspace}
 use Rattle.tera_workspace.proofs.NameSets.{among_append}
+use Rattle.tera_server.specs.Between.{AreFaultsFor, Faults}
 use Rattle.tera_server.specs.Editors.{state_of}
 use Rattle.tera_server.specs.Sending.{with_all, found_message, unless_lost, messages_in, Publisher, SendsFirst, names_once}
 use Rattle.tera_server.specs.Settling.{due_of, ArePublished, ArePublishedInPart}
@@ -25,6 +26,7 @@ use Rattle.tera_server.specs.declared.editor.DocumentState.{DocumentState}
 use Rattle.tera_server.specs.declared.editor.DocumentState.TheVariants.{Open, Lost, Closed}
 use Rattle.tera_server.specs.declared.server.Server.{Server}
 use Rattle.tera_server.specs.declared.sites.Sites.{Sites}
+use Rattle.tera_server.proofs.BetweenLemmas.{none_found, of_fewer}
 use Rattle.tera_server.proofs.SiteLemmas.{among_either, around_same, is_head}
 
 -- ---- more messages
@@ -170,7 +172,7 @@ once_or_among n others (m ∷ ms) h = by (is_among m others) refl (among_either 
 -- ---- documents one by one
 
 -- the names so far, and one more
-next_names : (names : List (String Global)) (i : ℕ) (name : String Global) → i < length names → name ≡ get_or names i name
+pub next_names : (names : List (String Global)) (i : ℕ) (name : String Global) → i < length names → name ≡ get_or names i name
     → map string_bytes (take (i + 1) names) ≡ map string_bytes (take i names) ++ string_bytes name ∷ []
 next_names names i name within is =
     ap (map string_bytes) (take_more names i name within ∙ ap (λ n. take i names ++ n ∷ []) (sym is)) ∙ map-append string_bytes (take i names) (name ∷ [])
@@ -252,15 +254,20 @@ abbrev pub with_found : Server → Workspace → Sites → NameList → NameList
 with_found s w sites unpublished edited = record s { workspace = w; sites = sites; unpublished = unpublished; edited = edited }
 
 -- by what it publishes then
-abbrev pub publisher_by : Server → Sites → Publisher
-publisher_by s sites = record {
+abbrev pub publisher_by : Server → Sites → Faults → Publisher
+publisher_by s sites faults = record {
   editor = s.editor;
   unread = s.unread;
   related = s.client.related;
   settings = s.settings;
   sites = sites;
+  between = faults;
   folders = map string_bytes s.folders.items;
 }
+
+-- what is found then between other markers
+abbrev pub AreBetweenIn : Server → Workspace → List (List ℕ) → Faults → Type 0
+AreBetweenIn s w names faults = AreFaultsFor s.settings (map string_bytes s.folders.items) w names faults
 
 -- those of two lists are among those of three
 pub among_outer : (n : List ℕ) (xs ys zs : List (List ℕ)) → is_among n (xs ++ zs) ≡ true → is_among n ((xs ++ ys) ++ zs) ≡ true
@@ -278,6 +285,8 @@ part_none s w sites unpublished due named old is around others = record {
   names = [];
   named = named;
   around = around;
+  faults = λ n. [];
+  between = none_found s.settings (map string_bytes s.folders.items) w (λ n. []) (λ n. refl);
   sent = sym (with_none old);
   others = others;
   due = λ n h. inr (among_outer n (names_of due) (names_of unpublished) (renewed_of sites) (subst (λ ns. is_among n ns ≡ true) (sym is) h));
@@ -298,6 +307,8 @@ part_same s unpublished edited old one other = record {
   names = [];
   named = [];
   around = around_same s.sites;
+  faults = λ n. [];
+  between = none_found s.settings (map string_bytes s.folders.items) s.workspace (λ n. []) (λ n. refl);
   sent = sym (with_none old);
   others = λ kept n differs. absurd (differs refl);
   due = λ n h. inr (subst (λ ns. is_among n ns ≡ true)
@@ -306,15 +317,18 @@ part_same s unpublished edited old one other = record {
 }
 
 -- some of those that were due were published
-pub part_due : (s : Server) (w : Workspace) (sites : Sites) (others due : NameList) (named : List (List ℕ)) (old now : Outgoing) →
-    names_of due ≡ due_of s ++ named → AreAround named s.sites sites →
+pub part_due : (s : Server) (w : Workspace) (sites : Sites) (others due : NameList) (named : List (List ℕ)) (faults : Faults) (old now : Outgoing) →
+    AreBetweenIn s w (names_of due ++ names_of others) faults → names_of due ≡ due_of s ++ named → AreAround named s.sites sites →
     (IsKept s.workspace → AreOthers (names_of others) (reported_of_name s.workspace) (reported_of_name w)) →
-    SendsFirst (λ ns. messages_in (publisher_by s sites) w (names_once (names_of others) ns)) (names_of due) old now →
+    SendsFirst (λ ns. messages_in (publisher_by s sites faults) w (names_once (names_of others) ns)) (names_of due) old now →
     ArePublishedInPart s (with_found s w sites others due) old now
-part_due s w sites others due named old now is around are (first, rest, whole, sent) = record {
+part_due s w sites others due named faults old now between is around are (first, rest, whole, sent) = record {
   names = names_once (names_of others) first;
   named = named;
   around = around;
+  faults = faults;
+  between = of_fewer s.settings (map string_bytes s.folders.items) w (names_of due ++ names_of others) (names_once (names_of others) first) faults
+      (λ n h. among_left n (names_of due) (names_of others) (subst (λ ns. is_among n ns ≡ true) (sym whole) (among_left n first rest (among_once n (names_of others) first h)))) between;
   sent = sent;
   others = λ kept n differs. is_other (reported_of_name s.workspace) (reported_of_name w) (names_of others) n ((are kept).same n) differs;
   due = λ n h. inr (among_left n (names_of due ++ names_of others) (renewed_of sites) (among_left n (names_of due) (names_of others) (subst (λ ns. is_among n ns ≡ true) (sym is) h)));
@@ -333,20 +347,26 @@ joined p w old next now due others more sent =
     ∙ ap (with_all old) (sym (messages_join p w due others))
 
 -- .. all of them, and some of those of which something else is reported
-pub part_others : (s : Server) (w : Workspace) (sites : Sites) (others edited : NameList) (named : List (List ℕ)) (old next now : Outgoing) →
-    AreAround named s.sites sites →
+pub part_others : (s : Server) (w : Workspace) (sites : Sites) (others edited : NameList) (named : List (List ℕ)) (faults : Faults) (old next now : Outgoing) →
+    AreBetweenIn s w ((due_of s ++ named) ++ names_of others) faults → AreAround named s.sites sites →
     (IsKept s.workspace → AreOthers (names_of others) (reported_of_name s.workspace) (reported_of_name w)) →
-    next ≡ with_all old (messages_in (publisher_by s sites) w (names_once (names_of others) (due_of s ++ named))) →
-    SendsFirst (λ ns. messages_in (publisher_by s sites) w (names_once [] ns)) (names_of others) next now →
+    next ≡ with_all old (messages_in (publisher_by s sites faults) w (names_once (names_of others) (due_of s ++ named))) →
+    SendsFirst (λ ns. messages_in (publisher_by s sites faults) w (names_once [] ns)) (names_of others) next now →
     ArePublishedInPart s (with_found s w sites others edited) old now
-part_others s w sites others edited named old next now around are more (first, rest, whole, sent) =
+part_others s w sites others edited named faults old next now between around are more (first, rest, whole, sent) =
     let all = names_once (names_of others) (due_of s ++ named) in
     let some = names_once [] first in
     record {
       names = all ++ some;
       named = named;
       around = around;
-      sent = joined (publisher_by s sites) w old next now all some more sent;
+      faults = faults;
+      between = of_fewer s.settings (map string_bytes s.folders.items) w ((due_of s ++ named) ++ names_of others) (all ++ some) faults
+          (λ n h. elim (among_either n all some h) [
+            | inl e ↦ among_left n (due_of s ++ named) (names_of others) (among_once n (names_of others) (due_of s ++ named) e)
+            | inr e ↦ among_right n (due_of s ++ named) (names_of others) (subst (λ ns. is_among n ns ≡ true) (sym whole) (among_left n first rest (among_once n [] first e)))
+          ]) between;
+      sent = joined (publisher_by s sites faults) w old next now all some more sent;
       others = λ kept n differs. is_other (reported_of_name s.workspace) (reported_of_name w) (names_of others) n ((are kept).same n) differs;
       due = λ n h. elim (once_or_among n (names_of others) (due_of s ++ named) h) [
         | inl e ↦ inl (among_left n all some e)
@@ -359,13 +379,13 @@ part_others s w sites others edited named old next now around are more (first, r
     }
 
 -- all
-pub published_whole : (s : Server) (w : Workspace) (sites : Sites) (others unpublished edited : NameList) (named : List (List ℕ)) (old next now : Outgoing) →
-    (IsKept s.workspace → IsSettled w) → (IsKept s.workspace → AreRead w) → (IsKept s.workspace → AreOthers (names_of others) (reported_of_name s.workspace) (reported_of_name w)) →
+pub published_whole : (s : Server) (w : Workspace) (sites : Sites) (others unpublished edited : NameList) (named : List (List ℕ)) (faults : Faults) (old next now : Outgoing) →
+    AreBetweenIn s w ((due_of s ++ named) ++ names_of others) faults → (IsKept s.workspace → IsSettled w) → (IsKept s.workspace → AreRead w) → (IsKept s.workspace → AreOthers (names_of others) (reported_of_name s.workspace) (reported_of_name w)) →
     AreAround named s.sites sites → (IsKept s.workspace → AreFitting w sites) → AreSaid sites → (AreGiven s.sites → HaveOthers sites) →
-    next ≡ with_all old (messages_in (publisher_by s sites) w (names_once (names_of others) (due_of s ++ named))) →
-    now ≡ with_all next (messages_in (publisher_by s sites) w (names_once [] (names_of others))) → names_of unpublished ≡ [] → names_of edited ≡ [] → renewed_of sites ≡ [] →
+    next ≡ with_all old (messages_in (publisher_by s sites faults) w (names_once (names_of others) (due_of s ++ named))) →
+    now ≡ with_all next (messages_in (publisher_by s sites faults) w (names_once [] (names_of others))) → names_of unpublished ≡ [] → names_of edited ≡ [] → renewed_of sites ≡ [] →
     ArePublished s (with_found s w sites unpublished edited) old now
-published_whole s w sites others unpublished edited named old next now settled read are around fits said given more sent no_unreported no_edited no_renewed = record {
+published_whole s w sites others unpublished edited named faults old next now between settled read are around fits said given more sent no_unreported no_edited no_renewed = record {
   settled = settled;
   read = read;
   others = names_of others;
@@ -375,7 +395,14 @@ published_whole s w sites others unpublished edited named old next now settled r
   fits = fits;
   said = said;
   given = given;
-  sent = joined (publisher_by s sites) w old next now (names_once (names_of others) (due_of s ++ named)) (names_once [] (names_of others)) more sent;
+  faults = faults;
+  between = of_fewer s.settings (map string_bytes s.folders.items) w ((due_of s ++ named) ++ names_of others)
+      (names_once (names_of others) (due_of s ++ named) ++ names_once [] (names_of others)) faults
+      (λ n h. elim (among_either n (names_once (names_of others) (due_of s ++ named)) (names_once [] (names_of others)) h) [
+        | inl e ↦ among_left n (due_of s ++ named) (names_of others) (among_once n (names_of others) (due_of s ++ named) e)
+        | inr e ↦ among_right n (due_of s ++ named) (names_of others) (among_once n [] (names_of others) e)
+      ]) between;
+  sent = joined (publisher_by s sites faults) w old next now (names_once (names_of others) (due_of s ++ named)) (names_once [] (names_of others)) more sent;
   unpublished = no_unreported;
   edited = no_edited;
   renewed = no_renewed;

@@ -21,27 +21,27 @@ use Rattle.tera_server.specs.declared.server.Server.{Server}
 abbrev pub is_due_inside : Workspace → List ℕ → Bool → List ℕ → Bool
 is_due_inside w folder all n = is_inside folder n && (all || not (length (reported_of_name w n) == 0))
 
--- the file in which settings are, and what is wrong in it, or has no effect
+-- the file in which settings are, and what is wrong in it
 abbrev pub file_found : FoundSettings → Option (List ℕ)
 file_found found_as.Nothing = None
-file_found (found_as.Set file settings why) = Some (string_bytes file)
+file_found (found_as.Set file settings) = Some (string_bytes file)
 file_found (found_as.Wrong file why) = Some (string_bytes file)
 
 abbrev pub why_found : FoundSettings → Option ReasonVal
 why_found found_as.Nothing = None
-why_found (found_as.Set file settings why) = option_map reason_view why
+why_found (found_as.Set file settings) = None
 why_found (found_as.Wrong file why) = Some (reason_view why)
 
 -- the settings after that, by those before: if the new ones are wrong, those stay
 abbrev pub settings_by : FoundSettings → Option SettingsVal → Option SettingsVal
 settings_by found_as.Nothing old = None
-settings_by (found_as.Set file settings why) old = Some (settings_view settings)
+settings_by (found_as.Set file settings) old = Some (settings_view settings)
 settings_by (found_as.Wrong file why) old = old
 
 -- more is found by what was found than without settings, or was before; if what was found is wrong, nothing changes
 abbrev pub finds_more_by : FoundSettings → Option SettingsVal → Bool
 finds_more_by found_as.Nothing old = finds_more_if_any old
-finds_more_by (found_as.Set file settings why) old = finds_more (settings_view settings) || finds_more_if_any old
+finds_more_by (found_as.Set file settings) old = finds_more (settings_view settings) || finds_more_if_any old
 finds_more_by (found_as.Wrong file why) old = false
 
 -- the site then, by that before; nothing is known of its documents yet
@@ -50,7 +50,7 @@ site_below root = option_map (λ r. no_site r []) root
 
 abbrev pub site_by : FoundSettings → Option KeptSiteVal → Option KeptSiteVal
 site_by found_as.Nothing old = None
-site_by (found_as.Set file settings why) old = site_below (settings_view settings).root
+site_by (found_as.Set file settings) old = site_below (settings_view settings).root
 site_by (found_as.Wrong file why) old = old
 
 -- only settings, sites, what is known of files, and what is to be published change; nothing that was to be published is
@@ -59,6 +59,7 @@ pub record IsUnconfigured (s t : Server) : Type 0 where
   pub same : t ≡ record s { settings = t.settings; sites = t.sites; unread = t.unread; edited = t.edited; unpublished = t.unpublished }
   pub edited : Grows (edited_of s) (edited_of t)
   pub unpublished : Grows (unpublished_of s) (unpublished_of t)
+  pub markers : t.settings.markers ≡ s.settings.markers
   pub given : AreGiven s.sites → AreGiven t.sites
 
 -- The documents in a folder that have findings are to be published, unless the same is reported there as before. If

@@ -8,6 +8,7 @@ use Rattle.json.specs.Value.{items_of}
 use Rattle.json_rpc.specs.Writing.{notification}
 use Rattle.protocol_values.specs.Writing.{number_json, range_json, location_json, member_tokens}
 use Rattle.tera_findings.specs.Findings.{kind_name}
+use Rattle.tera_findings.specs.declared.finding.Severity.TheVariants.{Error}
 use Rattle.tera_workspace.specs.Diagnostics.{DiagnosticVal, RelatedVal}
 use Rattle.text_edits.specs.declared.positions.Position.{Position}
 use Rattle.tera_server.specs.Editors.{seen_of, uri_in, version_in}
@@ -65,7 +66,7 @@ reason_code r = if is_some r.line then codes "settings" else codes "unread"
 abbrev pub reason_json : ReasonVal → Json
 reason_json r =
     object (member (codes "range") (range_json (reason_place r) (reason_place r))
-    (member (codes "severity") (number_json r.severity)
+    (member (codes "severity") (number_json (severity_number Error))
     (member (codes "code") (string (reason_code r))
     (member (codes "source") (string (codes "tera"))
     (member (codes "message") (string r.message) no_members)))))

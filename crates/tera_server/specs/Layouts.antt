@@ -1,5 +1,5 @@
 -- The layout of a text, as edits.
-use Rattle.std.specs.Prelude.{◌≡◌, ◌⊎◌, ℕ, List, All, map, Option, None, Some}
+use Rattle.std.specs.Prelude.{◌≡◌, ◌⊎◌, ℕ, List, Bool, true, false, All, map, Option, None, Some}
 use Rattle.json.specs.Json.{Json, null, array}
 use Rattle.json.specs.Token.{Token}
 use Rattle.json.specs.Tree.{json_tokens}
@@ -7,7 +7,7 @@ use Rattle.json.specs.Value.{items_of}
 use Rattle.tera_grammar.specs.Limits.{usual}
 use Rattle.tera_grammar.specs.statements.Top.{Derives}
 use Rattle.tera_layout.specs.Layout.{laid_out}
-use Rattle.tera_lexer.specs.grammar.Marks.{default_marks}
+use Rattle.tera_lexer.specs.grammar.Marks.{Marks}
 use Rattle.tera_outline.specs.Edits.{applied, AreApart, ReplacesWhite}
 use Rattle.tera_outline.specs.declared.edits.Edit.{Edit}
 use Rattle.tera_tree.specs.Tree.{Output}
@@ -35,14 +35,19 @@ IsLayoutOf e text None j = j ≡ null
 IsLayoutOf e text (Some layout) j =
     (edits : List Edit) × AreEdits text layout edits × (j ≡ array (items_of (map (edit_json e text) edits)))
 
--- the text is a template within the usual limits
-abbrev pub IsTemplate : List ℕ → Type 0
-IsTemplate text = (tree : Output) × Derives usual default_marks text tree
+-- the text is a template between markers, within the usual limits
+abbrev pub IsTemplate : Marks → List ℕ → Type 0
+IsTemplate m text = (tree : Output) × Derives usual m text tree
 
 -- the layout of a text, if it is a template; a text with a fault has none
-abbrev pub IsLaidOut : List ℕ → Option (List ℕ) → Type 0
-IsLaidOut text None = ¬ (IsTemplate text) ⊎ (laid_out default_marks text ≡ None)
-IsLaidOut text (Some layout) = IsTemplate text × (laid_out default_marks text ≡ Some layout)
+abbrev pub IsLaidOut : Marks → List ℕ → Option (List ℕ) → Type 0
+IsLaidOut m text None = ¬ (IsTemplate m text) ⊎ (laid_out m text ≡ None)
+IsLaidOut m text (Some layout) = IsTemplate m text × (laid_out m text ≡ Some layout)
 
-abbrev pub IsLayout : Encoding → List ℕ → Json → Type 0
-IsLayout e text j = (layout : Option (List ℕ)) × IsLaidOut text layout × IsLayoutOf e text layout j
+abbrev pub IsLayout : Marks → Encoding → List ℕ → Json → Type 0
+IsLayout m e text j = (layout : Option (List ℕ)) × IsLaidOut m text layout × IsLayoutOf e text layout j
+
+-- between markers that are not steady there is none
+abbrev pub IsLayoutIf : Bool → Marks → Encoding → List ℕ → Json → Type 0
+IsLayoutIf true m e text j = IsLayout m e text j
+IsLayoutIf false m e text j = j ≡ null

@@ -1,5 +1,6 @@
 pub mod Abilities
 pub mod Actions
+pub mod Between
 pub mod Clients
 pub mod Completions
 pub mod Configuring

@@ -13,6 +13,8 @@ use Rattle.json_rpc.specs.declared.code.Code.{Code}
 use Rattle.json_rpc.specs.declared.code.Code.TheVariants as codes_of
 use Rattle.protocol_values.specs.Members.{items_in, member_of, text_in}
 use Rattle.protocol_values.specs.Reading.{position_in, range_in}
+use Rattle.tera_layout.specs.Steady.{is_steady}
+use Rattle.tera_lexer.specs.grammar.Marks.{Marks, default_marks}
 use Rattle.tera_outline.specs.Names.{Named}
 use Rattle.tera_workspace.specs.Definitions.{texts_read, AreRead}
 use Rattle.tera_workspace.specs.Workspaces.{reported_of_name, IsKept}
@@ -27,12 +29,12 @@ use Rattle.tera_server.specs.Completions.{IsCompletion}
 use Rattle.tera_server.specs.Definitions.{IsNamedAt, place_of, place_json}
 use Rattle.tera_server.specs.Editors.{state_of}
 use Rattle.tera_server.specs.Hovers.{IsHead, hover_json}
-use Rattle.tera_server.specs.Layouts.{IsLayout}
+use Rattle.tera_server.specs.Layouts.{IsLayout, IsLayoutIf}
 use Rattle.tera_server.specs.Notes.{document_in, uri_given, item_uri, AreNames}
 use Rattle.tera_server.specs.Outlines.{IsOutline}
 use Rattle.tera_server.specs.References.{declares, IsList}
 use Rattle.tera_server.specs.SemanticTokens.{AreTokens}
-use Rattle.tera_server.specs.Settings.{registered_for, settings_for}
+use Rattle.tera_server.specs.Settings.{markers_for, registered_for}
 use Rattle.tera_server.specs.Signatures.{IsSignature}
 use Rattle.tera_server.specs.declared.editor.DocumentState.{DocumentState}
 use Rattle.tera_server.specs.declared.editor.DocumentState.TheVariants.{Open, Lost, Closed}
@@ -130,22 +132,26 @@ AreListed declared (Some n) t j =
 
 -- the result of a request about a text: its layout, its outline or its coloured tokens
 abbrev pub IsResultOfText : TextRequest → Encoding → List ℕ → Json → Type 0
-IsResultOfText of_text.Formatting encoding text j = IsLayout encoding text j
+IsResultOfText of_text.Formatting encoding text j = IsLayout default_marks encoding text j
 IsResultOfText of_text.Symbols encoding text j = IsOutline encoding text j
 IsResultOfText of_text.SemanticTokens encoding text j = AreTokens encoding text j
 
--- .. about the document of a URI; null, if the settings say that it has other markers
-abbrev pub has_other_markers : Server → List ℕ → Bool
-has_other_markers s name = option_map_or (λ settings. settings.other_markers) (settings_for s.settings (map string_bytes s.folders.items) name) false
+-- .. between other markers: only its layout, if these are steady
+abbrev pub IsResultBetween : Marks → TextRequest → Encoding → List ℕ → Json → Type 0
+IsResultBetween m of_text.Formatting encoding text j = IsLayoutIf (is_steady m) m encoding text j
+IsResultBetween m of_text.Symbols encoding text j = j ≡ null
+IsResultBetween m of_text.SemanticTokens encoding text j = j ≡ null
 
-abbrev pub IsReadAs : Bool → (Json → Type 0) → Json → Type 0
-IsReadAs true Holds j = j ≡ null
-IsReadAs false Holds j = Holds j
+-- .. between its markers, if these are not the usual ones
+abbrev pub IsResultAsRead : Option Marks → TextRequest → Encoding → List ℕ → Json → Type 0
+IsResultAsRead None request encoding text j = IsResultOfText request encoding text j
+IsResultAsRead (Some m) request encoding text j = IsResultBetween m request encoding text j
 
+-- .. about the document of a URI, by the settings
 abbrev pub IsResultOfDocument : TextRequest → Option (List ℕ) → Server → Json → Type 0
 IsResultOfDocument request uri s j =
     (name : List ℕ) × (text : List ℕ) × IsMeantAs uri s name text
-    × IsReadAs (has_other_markers s name) (IsResultOfText request s.client.encoding text) j
+    × IsResultAsRead (markers_for s.settings (map string_bytes s.folders.items) name) request s.client.encoding text j
 
 -- .. and about a name: the place that it leads to, the head of its definition, or the places that refer to what it
 -- stands for

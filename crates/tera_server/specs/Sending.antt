@@ -10,9 +10,10 @@ use Rattle.tera_workspace.specs.Sites.{named_of_name}
 use Rattle.tera_workspace.specs.Unregistered.{unknown_of_name}
 use Rattle.tera_workspace.specs.Workspaces.{reported_of_name}
 use Rattle.tera_workspace.specs.declared.workspace.Workspace.{Workspace}
+use Rattle.tera_server.specs.Between.{Faults, faults_in}
 use Rattle.tera_server.specs.Editors.{state_of}
 use Rattle.tera_server.specs.Findings.{published}
-use Rattle.tera_server.specs.Settings.{listing_for, registered_in, reported_for, shown_in}
+use Rattle.tera_server.specs.Settings.{FaultsAlone, listing_for, registered_in, reported_for, shown_in}
 use Rattle.tera_server.specs.Sites.{site_for}
 use Rattle.tera_server.specs.declared.editor.Editor.{Editor}
 use Rattle.tera_server.specs.declared.editor.DocumentState.{DocumentState}
@@ -29,13 +30,14 @@ abbrev pub with_all : Outgoing → List (List ℕ) → Outgoing
 with_all o messages = record { sent = o.sent ++ messages; reserved = o.reserved }
 
 -- what messages depend on: what the editor has, which files cannot be read, whether the notes of a finding are sent,
--- the settings, the sites by which names are judged, and the folders that are open
+-- the settings, the sites by which names are judged, what is found between other markers, and the folders that are open
 pub record Publisher : Type 0 where
   pub editor : Editor
   pub unread : UnreadFiles
   pub related : Bool
   pub settings : Settings
   pub sites : Sites
+  pub between : Faults
   pub folders : List (List ℕ)
 
 abbrev pub publisher : Publishing → Publisher
@@ -45,16 +47,18 @@ publisher p = record {
   related = p.related;
   settings = p.settings.now;
   sites = p.sites.now;
+  between = faults_in p.between.now;
   folders = map string_bytes p.folders.now;
 }
 
-abbrev pub publisher_of : Server → Publisher
-publisher_of s = record {
+abbrev pub publisher_of : Server → Faults → Publisher
+publisher_of s faults = record {
   editor = s.editor;
   unread = s.unread;
   related = s.client.related;
   settings = s.settings;
   sites = s.sites;
+  between = faults;
   folders = map string_bytes s.folders.items;
 }
 
@@ -67,9 +71,11 @@ abbrev pub named_for : Publisher → Workspace → List ℕ → List DiagnosticV
 named_for p w n = option_map_or (λ site. named_of_name w site n) (site_for p.sites p.folders n) []
 
 -- what was reported last for the document of a name, and these, as far as they are on by the settings, with the
--- severities of their rules
+-- severities of their rules; and what is found between other markers
 abbrev pub shown_of : Publisher → Workspace → List ℕ → List DiagnosticVal
-shown_of p w n = shown_in (reported_for p.settings p.folders n) (reported_of_name w n ++ (unknown_for p w n ++ named_for p w n))
+shown_of p w n =
+    shown_in (reported_for p.settings p.folders n) (reported_of_name w n ++ (unknown_for p w n ++ named_for p w n))
+    ++ shown_in FaultsAlone (p.between n)
 
 -- what is published for the document of a name: why its file cannot be read, or is wrong, and its findings
 unfoldable pub found_message : Publisher → Workspace → List ℕ → List ℕ
@@ -85,8 +91,8 @@ unless_lost Closed message = message ∷ []
 abbrev pub messages_in : Publisher → Workspace → List (List ℕ) → List (List ℕ)
 messages_in p w ns = flat_map (λ n. unless_lost (state_of p.editor n) (found_message p w n)) ns
 
-abbrev pub messages_of : Server → List (List ℕ) → List (List ℕ)
-messages_of s ns = messages_in (publisher_of s) s.workspace ns
+abbrev pub messages_of : Server → Faults → List (List ℕ) → List (List ℕ)
+messages_of s faults ns = messages_in (publisher_of s faults) s.workspace ns
 
 -- the messages for the first of some documents were sent
 abbrev pub SendsFirst : (List (List ℕ) → List (List ℕ)) → List (List ℕ) → Outgoing → Outgoing → Type 0

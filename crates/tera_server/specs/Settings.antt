@@ -7,6 +7,7 @@ use Rattle.std.specs.Str.{bytes_eq}
 use Rattle.std.specs.declared.alloc.Global.{Global}
 use Rattle.tera_findings.specs.Findings.{default_level, kind_name, severity_of}
 use Rattle.tera_check.specs.Levels.{is_fault}
+use Rattle.tera_lexer.specs.grammar.Marks.{Marks}
 use Rattle.tera_rules.specs.Registered.{is_listed, RegisteredVal as ByLists}
 use Rattle.tera_findings.specs.declared.finding.Kind.{Kind}
 use Rattle.tera_findings.specs.declared.finding.Severity.{Severity}
@@ -31,14 +32,14 @@ rule_view r = (string_bytes r.rule, r.level)
 abbrev pub level_view : RuleLevel → RuleVal
 level_view r = (r.rule.now, r.level)
 
--- how the names of templates end, if not as usual; what is left out; libraries; whether templates have other markers;
--- what rules are set to; the root of the names of templates, if there is one; and the names of filters, tests and
--- functions that the program registers, as far as they are known
+-- how the names of templates end, if not as usual; what is left out; libraries; the markers of templates, if they are
+-- not the usual ones; what rules are set to; the root of the names of templates, if there is one; and the names of
+-- filters, tests and functions that the program registers, as far as they are known
 pub record SettingsVal : Type 0 where
   pub extensions : Option (List (List ℕ))
   pub exclude : List (List (List ℕ))
   pub libraries : List (List ℕ)
-  pub other_markers : Bool
+  pub markers : Option Marks
   pub rules : List RuleVal
   pub root : Option (List ℕ)
   pub filters : Option (List (List ℕ))
@@ -56,7 +57,7 @@ settings_view s = record {
   extensions = option_map (λ v. map string_bytes v.items) s.extensions;
   exclude = map (λ v. map string_bytes v.items) s.exclude.keys;
   libraries = map string_bytes s.libraries.items;
-  other_markers = s.other_markers;
+  markers = s.markers;
   rules = map rule_view s.rules.items;
   root = option_map string_bytes s.root;
   filters = list_in s.filters;
@@ -89,6 +90,18 @@ folder_of folders path = find (λ f. holds f path) folders
 abbrev pub settings_for : Settings → List (List ℕ) → List ℕ → Option SettingsVal
 settings_for s folders path = option_and_then (settings_in s) (folder_of folders path)
 
+-- the markers of a file, if they are not the usual ones: those that are given, or else those by the settings for it
+abbrev pub markers_in : Option SettingsVal → Option Marks
+markers_in None = None
+markers_in (Some settings) = settings.markers
+
+abbrev pub markers_by : Option (Option Marks) → Option SettingsVal → Option Marks
+markers_by None settings = markers_in settings
+markers_by (Some markers) settings = markers
+
+abbrev pub markers_for : Settings → List (List ℕ) → List ℕ → Option Marks
+markers_for s folders file = markers_by s.markers (settings_for s folders file)
+
 -- the names that the program registers, by the settings for a file
 pub record RegisteredVal : Type 0 where
   pub filters : List (List ℕ)
@@ -109,13 +122,18 @@ registered_for s folders file = registered_by (settings_for s folders file)
 abbrev pub has_list : SettingsVal → Bool
 has_list settings = is_some settings.filters || is_some settings.tests || is_some settings.functions
 
--- more is found by them than is reported without: they list some, or names of templates are known
+-- something else is found by them than is reported without: they list some, names of templates are known, or templates
+-- have other markers
 abbrev pub finds_more : SettingsVal → Bool
-finds_more settings = has_list settings || is_some settings.root
+finds_more settings = (has_list settings || is_some settings.root) || is_some settings.markers
 
 abbrev pub finds_more_if_any : Option SettingsVal → Bool
 finds_more_if_any None = false
 finds_more_if_any (Some settings) = finds_more settings
+
+-- .. in a file
+abbrev pub finds_more_in_file : Settings → List (List ℕ) → List ℕ → Bool
+finds_more_in_file s folders file = is_some (markers_for s folders file) || finds_more_if_any (settings_for s folders file)
 
 abbrev pub if_listing : SettingsVal → Option SettingsVal
 if_listing settings = if has_list settings then Some settings else None
@@ -135,7 +153,8 @@ has_library file (folder, s) = is_some (folder_of (map string_bytes s.libraries.
 abbrev pub is_in_library : Settings → List ℕ → Bool
 is_in_library s file = list_any (has_library file) s.of_folders.entries
 
--- what is reported of a file: all that is on if rules are set so, only faults, or nothing
+-- what is reported of a file, of what is found between the usual markers: all that is on if rules are set so, only
+-- faults, or nothing
 pub data Shown : Type 0 where
   ByRules : List RuleVal → Shown
   FaultsAlone : Shown
@@ -146,21 +165,19 @@ reported_view (reported_as.By rules) = ByRules (map rule_view rules.now)
 reported_view reported_as.Faults = FaultsAlone
 reported_view reported_as.Nothing = NoFindings
 
--- for a folder, by its settings: nothing, if templates have other markers
-abbrev pub reported_with : SettingsVal → Shown
-reported_with settings = if settings.other_markers then NoFindings else ByRules settings.rules
-
+-- for a folder, by its settings
 abbrev pub reported_in : Option SettingsVal → Shown
 reported_in None = ByRules []
-reported_in (Some settings) = reported_with settings
+reported_in (Some settings) = ByRules settings.rules
 
 -- .. and for a file outside of the folders: only faults, if it is in a library
 abbrev pub reported_by : Settings → List ℕ → Option (List ℕ) → Shown
 reported_by s file (Some folder) = reported_in (settings_in s folder)
 reported_by s file None = if is_in_library s file then FaultsAlone else ByRules []
 
+-- .. and for a file with other markers: nothing
 abbrev pub reported_for : Settings → List (List ℕ) → List ℕ → Shown
-reported_for s folders file = reported_by s file (folder_of folders file)
+reported_for s folders file = if is_some (markers_for s folders file) then NoFindings else reported_by s file (folder_of folders file)
 
 -- the level of a kind if rules are set so: none if it is off; its default level, if nothing is set
 abbrev pub level_in : List RuleVal → Kind → Option Severity

@@ -15,7 +15,7 @@ use Rattle.tera_server.specs.declared.editor.DocumentState.TheVariants.{Open, Lo
 use Rattle.tera_server.specs.declared.notes.NeededKind.{NeededKind}
 use Rattle.tera_server.specs.declared.notes.NeededKind.TheVariants as kinds
 use Rattle.tera_server.specs.KnownFiles.{is_known}
-use Rattle.tera_server.specs.Settings.{finds_more_if_any, settings_for}
+use Rattle.tera_server.specs.Settings.{finds_more_in_file}
 use Rattle.tera_server.specs.UnreadFiles.{ReasonVal, is_same, unread, why_of, IsWhyAt}
 use Rattle.tera_server.specs.declared.server.OnDisk.{OnDisk}
 use Rattle.tera_server.specs.declared.server.OnDisk.TheVariants as on_disk
@@ -134,7 +134,7 @@ edited_by path why s = if option_eq is_same (why_of s.unread path) why then edit
 -- .. If more is found by the settings for it than without settings, it is always among them, as something else may be
 -- found in it. Its name may be there twice then.
 abbrev pub finds_more_for : Server → List ℕ → Bool
-finds_more_for s path = finds_more_if_any (settings_for s.settings (map string_bytes s.folders.items) path)
+finds_more_for s path = finds_more_in_file s.settings (map string_bytes s.folders.items) path
 
 abbrev pub edited_with : List ℕ → Option ReasonVal → Server → List (List ℕ)
 edited_with path why s = if finds_more_for s path then edited_of s ++ path ∷ [] else edited_by path why s

@@ -13,20 +13,19 @@ abbrev pub severity_number : Severity → ℕ
 severity_number Error = 1
 severity_number Warning = 2
 
--- the line that is wrong, if the file was read; the severity; and the message
+-- the line that is wrong, if the file was read; and the message
 pub record ReasonVal : Type 0 where
   pub line : Option ℕ
-  pub severity : ℕ
   pub message : List ℕ
 
 abbrev pub reason_view : Reason → ReasonVal
-reason_view r = record { line = r.line; severity = severity_number r.severity; message = string_bytes r.message }
+reason_view r = record { line = r.line; message = string_bytes r.message }
 
 abbrev pub unread : List ℕ → ReasonVal
-unread why = record { line = None; severity = severity_number Error; message = why }
+unread why = record { line = None; message = why }
 
 abbrev pub is_same : ReasonVal → ReasonVal → Bool
-is_same a b = option_eq nat_eq a.line b.line && (nat_eq a.severity b.severity && bytes_eq a.message b.message)
+is_same a b = option_eq nat_eq a.line b.line && bytes_eq a.message b.message
 
 -- why the file of a name cannot be read, or what is wrong in it
 abbrev pub why_of : UnreadFiles → List ℕ → Option ReasonVal

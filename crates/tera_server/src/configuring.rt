@@ -25,8 +25,8 @@ use tera_workspace::Workspace;
 pub enum FoundSettings {
     /// There is no file of settings.
     Nothing,
-    /// The file of this path has these settings, and a reason if something in it has no effect in a server.
-    Set(String, FolderSettings, Option<Reason>),
+    /// The file of this path has these settings.
+    Set(String, FolderSettings),
     /// The file of this path has no settings, for this reason. The folder keeps the settings that it has.
     Wrong(String, Reason),
 }
@@ -42,8 +42,9 @@ impl Server {
         self.settings.of(self.folders.as_slice(), path)
     }
 
-    /// Sets what was found for the folder. If other findings are reported in it by that, because of other rules or
-    /// markers, its documents are published again; if more is found by the settings, or was, all its documents are.
+    /// Sets what was found for the folder. If other findings are reported in it by that, because of other rules, its
+    /// documents that have findings are published again; if something else is found by the settings than without, or
+    /// was, all its documents are.
     /// After an allocation failure a part of this may be done.
     pub fn configure(
         &mut self,
@@ -90,18 +91,18 @@ impl Server {
         let before = self.settings.reported_in(folder);
         match found {
             FoundSettings::Nothing => before.is_by(&[]),
-            FoundSettings::Set(_, settings, _) => settings.reported().is_same(before),
+            FoundSettings::Set(_, settings) => settings.reported().is_same(before),
             FoundSettings::Wrong(_, _) => true,
         }
     }
 
-    // Whether more is found by these settings than without settings, or was before.
+    // Whether something else is found by these settings than without settings, or was before.
     fn finds_more(&self, folder: &str, found: &FoundSettings) -> bool
         ensures { result ≡ finds_more_by found.now (settings_in self.now.settings folder.now) }
     {
         match found {
             FoundSettings::Nothing => self.settings.finds_more_in(folder),
-            FoundSettings::Set(_, settings, _) => {
+            FoundSettings::Set(_, settings) => {
                 settings.finds_more() || self.settings.finds_more_in(folder)
             }
             FoundSettings::Wrong(_, _) => false,
@@ -169,7 +170,7 @@ impl Server {
                 self.sites.remove(folder);
                 Ok(())
             }
-            FoundSettings::Set(_, settings, _) => self.set_root(alloc, folder, settings),
+            FoundSettings::Set(_, settings) => self.set_root(alloc, folder, settings),
             FoundSettings::Wrong(_, _) => Ok(()),
         }
     }
@@ -218,6 +219,7 @@ impl Server {
         ensures same { self.new ≡ record self.old
             { settings = self.new.settings; unread = self.new.unread; edited = self.new.edited } }
         ensures set { OnOk result (AreFoundSet folder.now found self.old self.new) }
+        ensures markers { self.new.settings.markers ≡ self.old.settings.markers }
         ensures grows { Grows (edited_of self.old) (edited_of self.new) }
     {
         match found {
@@ -225,9 +227,7 @@ impl Server {
                 self.settings.remove(folder);
                 Ok(())
             }
-            FoundSettings::Set(file, settings, why) => {
-                self.set_settings(alloc, folder, file, settings, why)
-            }
+            FoundSettings::Set(file, settings) => self.set_settings(alloc, folder, file, settings),
             FoundSettings::Wrong(file, why) => self.set_wrong(alloc, folder, file, why),
         }
     }
@@ -238,14 +238,14 @@ impl Server {
         folder: &str,
         file: String,
         settings: FolderSettings,
-        why: Option<Reason>,
     ) -> Result<(), AllocError>
         ensures same { self.new ≡ record self.old
             { settings = self.new.settings; unread = self.new.unread; edited = self.new.edited } }
-        ensures set { OnOk result (AreFoundSet folder.now (found_as.Set file settings why) self.old self.new) }
+        ensures set { OnOk result (AreFoundSet folder.now (found_as.Set file settings) self.old self.new) }
+        ensures markers { self.new.settings.markers ≡ self.old.settings.markers }
         ensures grows { Grows (edited_of self.old) (edited_of self.new) }
     {
-        self.report_why(alloc, file.as_str(), why)?;
+        self.report_why(alloc, file.as_str(), None)?;
         self.settings.set(alloc, folder, file, settings)
     }
 
@@ -259,14 +259,14 @@ impl Server {
         ensures same { self.new ≡ record self.old
             { settings = self.new.settings; unread = self.new.unread; edited = self.new.edited } }
         ensures set { OnOk result (AreFoundSet folder.now (found_as.Wrong file why) self.old self.new) }
+        ensures markers { self.new.settings.markers ≡ self.old.settings.markers }
         ensures grows { Grows (edited_of self.old) (edited_of self.new) }
     {
         self.report_why(alloc, file.as_str(), Some(why))?;
         self.settings.set_file(alloc, folder, file)
     }
 
-    // Sets what is wrong in a file of settings, or has no effect; `None` if nothing is. If that changes, it is
-    // published.
+    // Sets what is wrong in a file of settings; `None` if nothing is. If that changes, it is published.
     fn report_why(
         &mut self,
         alloc: Global,

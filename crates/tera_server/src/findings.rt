@@ -7,12 +7,14 @@ ghost use Rattle.json_members.specs.Written.{Puts, PutsJson};
 ghost use Rattle.tera_workspace.specs.Diagnostics.{diagnostic_view, related_view};
 ghost use Rattle.tera_workspace.specs.Names.{contains_name, is_among};
 ghost use Rattle.tera_workspace.specs.Unregistered.{unknown_of_name};
+ghost use Rattle.tera_server.specs.Between.{faults_in};
 ghost use Rattle.tera_server.specs.Editors.{seen_of, uri_in, version_in};
 ghost use Rattle.tera_server.specs.Findings.{one_related, related_tokens, one_found, found_if_on, found_json, reason_code, reason_tokens, version_tokens};
 ghost use Rattle.tera_server.specs.Sending.{with_all, messages_in, publisher, SendsFirst, named_for, names_once, unknown_for};
-ghost use Rattle.tera_server.specs.Settings.{registered_in, reported_for, reported_view, settings_view, shown_in};
+ghost use Rattle.tera_server.specs.Settings.{FaultsAlone, registered_in, reported_for, reported_view, settings_view, shown_in};
 ghost use Rattle.tera_server.specs.UnreadFiles.{reason_view, severity_number, why_of};
 
+use crate::between::FaultsBetween;
 use crate::editor::{DocumentState, Editor};
 use crate::settings::{FolderSettings, Reported, Settings};
 use crate::sites::Sites;
@@ -40,6 +42,8 @@ pub(crate) struct Publishing<'e> {
     pub(crate) settings: &'e Settings,
     /// By what names of templates are judged.
     pub(crate) sites: &'e Sites,
+    /// What is found in documents that have other markers.
+    pub(crate) between: &'e FaultsBetween,
     pub(crate) folders: &'e [String],
 }
 
@@ -156,7 +160,8 @@ fn named_in(
     }
 }
 
-// Writes what was reported for the document, what is not registered in it, and the findings on names of templates.
+// Writes what was reported for the document, what is not registered in it, and the findings on names of templates; and
+// what is found between other markers.
 fn put_published(
     alloc: Global,
     out: &mut Writer,
@@ -171,7 +176,8 @@ fn put_published(
         (why_of publishing.entry.unread.now name.now)
         (shown_in (reported_for publishing.entry.settings.now
         (map string_bytes publishing.entry.folders.now) name.now)
-        (map diagnostic_view found.now ++ (map diagnostic_view unknown.now ++ map diagnostic_view named.now)))) }
+        (map diagnostic_view found.now ++ (map diagnostic_view unknown.now ++ map diagnostic_view named.now))
+        ++ shown_in FaultsAlone (faults_in publishing.entry.between.now name.now))) }
 {
     let uri = uri_by(alloc, publishing.editor, name)?;
     put_tokens(
@@ -189,6 +195,8 @@ fn put_published(
     put_found(alloc, out, publishing, reported, found)?;
     put_found(alloc, out, publishing, reported, unknown)?;
     put_found(alloc, out, publishing, reported, named)?;
+    let between = publishing.between.of(name);
+    put_found(alloc, out, publishing, Reported::Faults, between)?;
     put_tokens(out, &[Token::EndArray, Token::EndObject])
 }
 
@@ -247,7 +255,7 @@ fn put_reason(out: &mut Writer, why: Option<&Reason>) -> Result<(), AllocError>
     };
     out.begin_object()?;
     put_range(out, "range", at, at)?;
-    put_number(out, "severity", severity_number(why.severity))?;
+    put_number(out, "severity", severity_number(Severity::Error))?;
     put_tokens(
         out,
         &[
@@ -320,8 +328,8 @@ fn put_diagnostic(
     out.end_object()
 }
 
-/// The number of the severity in the protocol.
-pub(crate) fn severity_number(severity: Severity) -> usize
+// The number of the severity in the protocol.
+fn severity_number(severity: Severity) -> usize
     ensures { result ≡ severity_number severity }
 {
     match severity {

@@ -11,11 +11,13 @@
 //! exist, or cannot be read; `templates`, which files have which names; `settings` and `configuring`, by folders;
 //! `sites` and `naming`, templates by their names below a root;
 //! `abilities`, `layouts`, `symbols`, `definitions`, `hovers`, `references`, `completions`, `signatures`,
-//! `semantic_tokens` and `actions`, which write results; `findings`, which publishes what is found; `laws`.
+//! `semantic_tokens` and `actions`, which write results; `between`, what is found between other markers, and `findings`,
+//! which publishes what is found; `laws`.
 #![tactic(auto)]
 
 mod abilities;
 mod actions;
+mod between;
 mod client;
 mod completions;
 mod configuring;
@@ -44,4 +46,5 @@ pub use configuring::FoundSettings;
 pub use server::{Ended, Needed, OnDisk, Server};
 pub use settings::{FolderSettings, RuleSetting};
 pub use sites::UsedName;
+pub use tera_workspace::Markers;
 pub use unread::Reason;

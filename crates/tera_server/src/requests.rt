@@ -11,7 +11,8 @@ ghost use Rattle.tera_server.specs.Actions.{acting_view, wants_corrections};
 ghost use Rattle.tera_outline.specs.Names.{name_view};
 ghost use Rattle.tera_server.specs.Clients.{client_in};
 ghost use Rattle.tera_server.specs.Notes.{document_in, uri_given, AreNames};
-ghost use Rattle.tera_server.specs.Requests.{asked_of, folders_in, IsBegun, IsOpenAs, IsNotOpen, RefusesDocument, RefusesPlace, IsMeantAs, acting_of, range_given, AreOfRange, has_other_markers, IsReadAs, IsResultOfDocument, IsResultOfText, IsResultOfName, IsResultAt, place_in, IsPut, IsAnsweredBy};
+ghost use Rattle.tera_server.specs.Requests.{asked_of, folders_in, IsBegun, IsOpenAs, IsNotOpen, RefusesDocument, RefusesPlace, IsMeantAs, acting_of, range_given, AreOfRange, IsResultAsRead, IsResultBetween, IsResultOfDocument, IsResultOfText, IsResultOfName, IsResultAt, place_in, IsPut, IsAnsweredBy};
+ghost use Rattle.tera_server.specs.Settings.{markers_for};
 ghost use Rattle.tera_server.specs.declared.server.Phase.TheVariants.{Running};
 
 use crate::abilities::put_abilities;
@@ -21,7 +22,7 @@ use crate::completions::{Offering, put_completion};
 use crate::definitions::{name_at, put_definition};
 use crate::editor::DocumentState;
 use crate::hovers::put_hover;
-use crate::layouts::put_layout;
+use crate::layouts::{put_layout, put_layout_if_steady};
 use crate::notes::{names_in, push_name};
 use crate::references::{Search, put_references};
 use crate::semantic_tokens::put_semantic_tokens;
@@ -33,8 +34,9 @@ use json::{Value, Writer};
 use json_rpc::{Code, Id, begin_answer, end_message};
 use protocol_values::{is_set, items_of, member, position_of, range_of, text_of};
 use std::alloc::{AllocError, Global};
+use tera_lexer::Delimiters;
 use tera_outline::Name;
-use tera_workspace::{FileText, Workspace};
+use tera_workspace::{FileText, Markers, Workspace};
 use text_edits::Encoding;
 
 /// What a request asks.
@@ -190,7 +192,7 @@ impl Server {
         }
     }
 
-    // Writes what is asked about the document in the parameters, or `null` if its templates have other markers.
+    // Writes what is asked about the document in the parameters, between its markers.
     fn put_result_of_document(
         &self,
         alloc: Global,
@@ -205,10 +207,10 @@ impl Server {
         ensures before { out.new.before ≡ out.old.before }
     {
         let (name, text) = self.document_meant(alloc, params)?;
-        Ok(self.put_result_if_read(alloc, out, request, name.as_str(), text)?)
+        Ok(self.put_result_as_read(alloc, out, request, name.as_str(), text)?)
     }
 
-    fn put_result_if_read(
+    fn put_result_as_read(
         &self,
         alloc: Global,
         out: &mut Writer,
@@ -217,23 +219,15 @@ impl Server {
         text: &str,
     ) -> Result<(), AllocError>
         ensures tokens { OnOk result ((j : Json)
-            × IsReadAs (has_other_markers self.now name.now) (IsResultOfText request self.now.client.encoding text.now) j
+            × IsResultAsRead (markers_for self.now.settings (map string_bytes self.now.folders.items) name.now)
+            request self.now.client.encoding text.now j
             × (out.new.tokens ≡ out.old.tokens ++ json_tokens j)) }
         ensures before { out.new.before ≡ out.old.before }
     {
-        if self.has_other_markers(name) {
-            return out.null();
-        }
-        put_result_of_text(alloc, out, request, self.client.encoding, text)
-    }
-
-    // Whether the settings say that the document has other markers.
-    fn has_other_markers(&self, name: &str) -> bool
-        ensures { result ≡ has_other_markers self.now name.now }
-    {
-        match self.settings.of(self.folders.as_slice(), name) {
-            Some(settings) => settings.other_markers,
-            None => false,
+        let encoding = self.client.encoding;
+        match self.settings.markers_for(self.folders.as_slice(), name) {
+            Some(markers) => put_result_between(alloc, out, request, encoding, markers, text),
+            None => put_result_of_text(alloc, out, request, encoding, text),
         }
     }
 
@@ -390,6 +384,26 @@ impl Server {
     }
 }
 
+// Writes what is asked about a text between other markers; only its layout is known, if these are steady.
+fn put_result_between(
+    alloc: Global,
+    out: &mut Writer,
+    request: TextRequest,
+    encoding: Encoding,
+    markers: &Markers,
+    text: &str,
+) -> Result<(), AllocError>
+    ensures tokens { OnOk result ((j : Json) × IsResultBetween markers.now request encoding text.now j
+        × (out.new.tokens ≡ out.old.tokens ++ json_tokens j)) }
+    ensures before { out.new.before ≡ out.old.before }
+{
+    match request {
+        TextRequest::Formatting => put_layout_if_steady(alloc, out, encoding, markers, text),
+        TextRequest::Symbols => out.null(),
+        TextRequest::SemanticTokens => out.null(),
+    }
+}
+
 fn put_result_of_text(
     alloc: Global,
     out: &mut Writer,
@@ -402,7 +416,7 @@ fn put_result_of_text(
     ensures before { out.new.before ≡ out.old.before }
 {
     match request {
-        TextRequest::Formatting => put_layout(alloc, out, encoding, text),
+        TextRequest::Formatting => put_layout(alloc, out, encoding, &Delimiters::default(), text),
         TextRequest::Symbols => put_outline(alloc, out, encoding, text),
         TextRequest::SemanticTokens => put_semantic_tokens(alloc, out, encoding, text),
     }

@@ -22,6 +22,7 @@ ghost use Rattle.tera_server.specs.Sites.{AreGiven, renewed_of, site_in};
 ghost use Rattle.tera_server.specs.UnreadFiles.{reason_view, why_of, IsWhyAt};
 ghost use Rattle.tera_server.specs.declared.server.Phase.TheVariants.{New};
 
+use crate::between::faults_between;
 use crate::client::Client;
 use crate::editor::Editor;
 use crate::findings::{Publishing, publish_each};
@@ -34,7 +35,7 @@ use crate::unread::{Reason, UnreadFiles};
 use json::Scratch;
 use json_rpc::{Code, Id, Incoming, Message, Outbox, id_to_answer};
 use std::alloc::{AllocError, Global};
-use tera_workspace::Workspace;
+use tera_workspace::{Markers, Workspace};
 
 /// How far the exchange with a client has come.
 #[derive(Clone, Copy, PartialEq, Eq)]
@@ -108,7 +109,7 @@ impl Server {
         ensures kept { IsKept result.workspace }
         ensures none { (needed_of result ≡ []) × (edited_of result ≡ []) × (unpublished_of result ≡ [])
             × ((n : List ℕ) → why_of result.unread n ≡ None) × ((n : List ℕ) → is_known result.known n ≡ false) }
-        ensures settings { (f : List ℕ) → settings_in result.settings f ≡ None }
+        ensures settings { ((f : List ℕ) → settings_in result.settings f ≡ None) × (result.settings.markers ≡ None) }
         ensures sites { ((f : List ℕ) → site_in result.sites f ≡ None) × (renewed_of result.sites ≡ [])
             × AreGiven result.sites }
     {
@@ -313,6 +314,15 @@ impl Server {
         }
     }
 
+    /// All templates have these markers from now on, whatever settings of folders say; `None` stands for the usual
+    /// ones. What was published stays until it is published again.
+    pub fn set_markers(&mut self, markers: Option<Markers>)
+        ensures same { self.new ≡ record self.old { settings = self.new.settings } }
+        ensures set { self.new.settings ≡ record self.old.settings { markers = Some markers } }
+    {
+        self.settings.set_markers(markers);
+    }
+
     /// Whether there was a file under this path when it was given last.
     pub fn is_known(&self, path: &str) -> bool
         ensures { result ≡ is_known self.now.known path.now }
@@ -435,24 +445,27 @@ impl Server {
         self.unpublished = self.workspace.settle(alloc)?;
         self.sites.renew(alloc, &self.workspace, &mut self.edited)?;
         let folders = self.folders.as_slice();
+        let edited = self.edited.as_slice();
+        // The documents in `unpublished` are published after the others.
+        let unpublished = self.unpublished.as_slice();
+        let between = faults_between(
+            alloc,
+            &self.settings,
+            folders,
+            &self.workspace,
+            edited,
+            unpublished,
+        )?;
         let publishing = Publishing {
             editor: &self.editor,
             unread: &self.unread,
             related: self.client.related,
             settings: &self.settings,
             sites: &self.sites,
+            between: &between,
             folders,
         };
-        // The documents in `unpublished` are published after these.
-        let unpublished = self.unpublished.as_slice();
-        publish_each(
-            alloc,
-            publishing,
-            &self.workspace,
-            self.edited.as_slice(),
-            unpublished,
-            out,
-        )?;
+        publish_each(alloc, publishing, &self.workspace, edited, unpublished, out)?;
         self.edited.clear();
         publish_each(alloc, publishing, &self.workspace, unpublished, &[], out)?;
         self.unpublished.clear();

@@ -10,6 +10,7 @@ use crate::templates::is_inside;
 use std::alloc::{AllocError, Global};
 use std::collections::{BTreeMap, BTreeSet};
 use tera_check::{Kind, Registered, Severity};
+use tera_workspace::Markers;
 
 /// What settings say of the templates below a folder.
 #[derive(Debug, Drop)]
@@ -20,9 +21,9 @@ pub struct FolderSettings {
     pub exclude: BTreeSet<Vec<String>>,
     /// Files and folders with components that may be called, by the paths by which the system knows them.
     pub libraries: Vec<String>,
-    /// Whether templates in the folder have other markers than the usual ones. The server reads no others, so nothing
-    /// is reported of these.
-    pub other_markers: bool,
+    /// The markers of the templates in the folder, if they are not the usual ones. Only the first syntax error of these
+    /// templates is reported.
+    pub markers: Option<Markers>,
     /// What rules are set to. All others have the level [`Kind::default_level`].
     pub rules: Vec<RuleSetting>,
     /// The folder below which templates have their names, by the path by which its files are given. Without one nothing is
@@ -37,13 +38,10 @@ pub struct FolderSettings {
 }
 
 impl FolderSettings {
-    /// What is reported of the templates in the folder.
+    /// What is reported of the templates in the folder, between the usual markers.
     pub(crate) fn reported(&self) -> Reported<'_>
-        ensures { reported_view result ≡ specs.reported_with (settings_view self.now) }
+        ensures { reported_view result ≡ ByRules (settings_view self.now).rules }
     {
-        if self.other_markers {
-            return Reported::Nothing;
-        }
         Reported::By(self.rules.as_slice())
     }
 
@@ -54,11 +52,12 @@ impl FolderSettings {
         is_list(&self.filters) || is_list(&self.tests) || is_list(&self.functions)
     }
 
-    /// Whether more is found by them than is reported without: they list something, or names are known.
+    /// Whether something else is found by them than is reported without: they list something, names are known, or
+    /// templates have other markers.
     pub(crate) fn finds_more(&self) -> bool
         ensures { result ≡ specs.finds_more (settings_view self.now) }
     {
-        self.has_list() || self.root.is_some()
+        self.has_list() || self.root.is_some() || self.markers.is_some()
     }
 
     /// What the program registers, by their lists.
@@ -97,7 +96,7 @@ pub(crate) enum Reported<'s> {
     By(&'s [RuleSetting]),
     /// Only faults, as the file is in a library.
     Faults,
-    /// Nothing, as the file has other markers.
+    /// Nothing of what is found between the usual markers, as the file has others.
     Nothing,
 }
 
@@ -107,16 +106,21 @@ pub(crate) struct Settings {
     of_folders: BTreeMap<String, FolderSettings>,
     // The files of settings that count for the folders, even if they are wrong.
     files: BTreeMap<String, String>,
+    // The markers of all files, if these are given, whatever the settings of folders say. The inner `None` stands for
+    // the usual ones.
+    markers: Option<Option<Markers>>,
 }
 
 impl Settings {
     pub(crate) fn new(alloc: Global) -> Settings
         ensures none { (f : List ℕ) → settings_in result f ≡ None }
         ensures unnamed { (f : List ℕ) → file_in result f ≡ None }
+        ensures ungiven { result.markers ≡ None }
     {
         Settings {
             of_folders: BTreeMap::new(alloc),
             files: BTreeMap::new(alloc),
+            markers: None,
         }
     }
 
@@ -127,6 +131,28 @@ impl Settings {
     {
         match folder_of(folders, path) {
             Some(folder) => self.of_folders.get(folder),
+            None => None,
+        }
+    }
+
+    /// The markers of a file, if they are not the usual ones.
+    pub(crate) fn markers_for(&self, folders: &[String], file: &str) -> Option<&Markers>
+        ensures { option_map (λ m. m.now) result
+            ≡ specs.markers_for self.now (map string_bytes folders.now) file.now }
+    {
+        match &self.markers {
+            Some(given) => given.as_ref(),
+            None => self.markers_set_for(folders, file),
+        }
+    }
+
+    // Those that the settings for the file say.
+    fn markers_set_for(&self, folders: &[String], file: &str) -> Option<&Markers>
+        ensures { option_map (λ m. m.now) result
+            ≡ specs.markers_in (specs.settings_for self.now (map string_bytes folders.now) file.now) }
+    {
+        match self.of(folders, file) {
+            Some(settings) => settings.markers.as_ref(),
             None => None,
         }
     }
@@ -149,10 +175,14 @@ impl Settings {
         }
     }
 
-    /// What is reported of a file: if it is in a folder, by the folder's settings; else, in a library, only faults.
+    /// What is reported of a file of what is found between the usual markers: nothing, if it has others. If it is in a
+    /// folder, by the folder's settings; else, in a library, only faults.
     pub(crate) fn reported(&self, folders: &[String], file: &str) -> Reported<'_>
         ensures { reported_view result ≡ specs.reported_for self.now (map string_bytes folders.now) file.now }
     {
+        if self.markers_for(folders, file).is_some() {
+            return Reported::Nothing;
+        }
         match folder_of(folders, file) {
             Some(folder) => self.reported_in(folder),
             None if self.is_in_library(file) => Reported::Faults,
@@ -183,11 +213,13 @@ impl Settings {
         }
     }
 
-    /// Whether more is found by the settings for a file than without settings.
+    /// Whether something else is found in a file than is reported without settings.
     pub(crate) fn finds_more_for(&self, folders: &[String], file: &str) -> bool
-        ensures { result ≡ specs.finds_more_if_any
-            (specs.settings_for self.now (map string_bytes folders.now) file.now) }
+        ensures { result ≡ specs.finds_more_in_file self.now (map string_bytes folders.now) file.now }
     {
+        if self.markers_for(folders, file).is_some() {
+            return true;
+        }
         match self.of(folders, file) {
             Some(settings) => settings.finds_more(),
             None => false,
@@ -238,6 +270,7 @@ impl Settings {
     ) -> Result<(), AllocError>
         ensures set { OnOk result (IsSetAt folder.now (Some (settings_view settings)) self.old self.new) }
         ensures named { OnOk result (IsFileAt folder.now (Some (string_bytes file)) self.old self.new) }
+        ensures markers { self.new.markers ≡ self.old.markers }
         ensures err { OnErr result ((f : List ℕ) → settings_in self.new f ≡ settings_in self.old f) }
     {
         self.set_file(alloc, folder, file)?;
@@ -254,6 +287,7 @@ impl Settings {
         file: String,
     ) -> Result<(), AllocError>
         ensures settings { (f : List ℕ) → settings_in self.new f ≡ settings_in self.old f }
+        ensures markers { self.new.markers ≡ self.old.markers }
         ensures named { OnOk result (IsFileAt folder.now (Some (string_bytes file)) self.old self.new) }
     {
         self.files.insert(String::from_str(alloc, folder)?, file)?;
@@ -264,9 +298,17 @@ impl Settings {
     pub(crate) fn remove(&mut self, folder: &str)
         ensures set { IsSetAt folder.now None self.old self.new }
         ensures named { IsFileAt folder.now None self.old self.new }
+        ensures markers { self.new.markers ≡ self.old.markers }
     {
         self.of_folders.remove(folder);
         self.files.remove(folder);
+    }
+
+    /// All files have these markers from now on, or the usual ones, whatever the settings of folders say.
+    pub(crate) fn set_markers(&mut self, markers: Option<Markers>)
+        ensures { self.new ≡ record self.old { markers = Some markers } }
+    {
+        self.markers = Some(markers);
     }
 }
 

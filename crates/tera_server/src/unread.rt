@@ -5,18 +5,14 @@ ghost use Rattle.std.specs.Option.{option_eq, option_map};
 ghost use Rattle.tera_server.specs.UnreadFiles as specs;
 ghost use Rattle.tera_server.specs.UnreadFiles.{is_same, reason_view, why_of, IsWhyAt};
 
-use crate::findings::severity_number;
 use std::alloc::{AllocError, Global};
 use std::collections::BTreeMap;
-use tera_check::Severity;
 
 /// Why a file cannot be read, or what is wrong in a file of settings.
 #[derive(Debug, Drop)]
 pub struct Reason {
     /// The line of the file that is wrong, from 0, if the file was read.
     pub line: Option<usize>,
-    /// Its severity.
-    pub severity: Severity,
     pub message: String,
 }
 
@@ -27,7 +23,6 @@ impl Reason {
     {
         Reason {
             line: None,
-            severity: Severity::Error,
             message: why,
         }
     }
@@ -35,9 +30,7 @@ impl Reason {
     fn is_same(&self, other: &Reason) -> bool
         ensures { result ≡ is_same (reason_view self.now) (reason_view other.now) }
     {
-        self.line == other.line
-            && severity_number(self.severity) == severity_number(other.severity)
-            && self.message == other.message
+        self.line == other.line && self.message == other.message
     }
 }
 

@@ -2,6 +2,7 @@ pub mod AlikeLemmas
 pub mod AnewLemmas
 pub mod BelowLemmas
 pub mod BesideLemmas
+pub mod BetweenLemmas
 pub mod CallLemmas
 pub mod ContainLemmas
 pub mod CurrentLemmas

@@ -1,4 +1,5 @@
 pub mod Beside
+pub mod Between
 pub mod Components
 pub mod Definitions
 pub mod Diagnostics

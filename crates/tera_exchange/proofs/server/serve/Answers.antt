@@ -13,7 +13,7 @@ pieces-init g c = record {
   read = (
     [],
     consumes_none (g.R.Read.remaining c.args.reader.now),
-    reading_begun LONGEST c.new-server.result c.new-frames.result (g.W.Write.contents c.args.writer.now) c.new-frames.ensures.represents,
+    reading_begun LONGEST c.args.server c.new-frames.result (g.W.Write.contents c.args.writer.now) c.new-frames.ensures.represents,
   );
   sent = c.in_ok-out.ensures;
   room = ap length (c.in_ok-piece.ensures.items_if_clones_equal (λ y e. e)) ∙ length-replicate {A = ℕ} PIECE 0;
@@ -21,8 +21,7 @@ pieces-init g c = record {
 
 pub returns-then-not-branch : goal.returns-then-not-branch
 returns-then-not-branch g c =
-    let start = c.new-server.result in
-    let new = c.new-server.ensures in
+    let start = c.args.server in
     let r0 = g.R.Read.remaining c.args.reader.now in
     let r2 = g.R.Read.remaining c.take_piece.new.reader in
     let w0 = g.W.Write.contents c.args.writer.now in
@@ -31,14 +30,13 @@ returns-then-not-branch g c =
     let came = c.in_ok-take_piece.ensures.came in
     let end = came.3 c.if-not-branch.true in
     served_at_end LONGEST c.ended-finished.result c.pieces.short start c.pieces.server before.0 came.0 c.pieces.frames r0 r2 w0 w1
-    (record { phase = new.phase; known = new.known; reported = new.reported; kept = new.kept; none = new.none; sites = new.sites })
+    c.requires
     (consumes_more r0 (g.R.Read.remaining c.pieces.reader) r2 before.0 came.0 before.1 came.1)
     end.0 end.1 c.ended-finished.ensures before.2
 
 pub returns-in-Ended : goal.returns-in-Ended
 returns-in-Ended g c =
-    let start = c.new-server.result in
-    let new = c.new-server.ensures in
+    let start = c.args.server in
     let r0 = g.R.Read.remaining c.args.reader.now in
     let r2 = g.R.Read.remaining c.take_piece.new.reader in
     let w0 = g.W.Write.contents c.args.writer.now in
@@ -57,12 +55,12 @@ returns-in-Ended g c =
     (subst (λ n. IsTalking n None s s came_before held w1 w1 → IsWaiting n c.in_ok-finished.field-0 s t came_before now w1 w2) limit
     (c.in_ok-finished.ensures.talked s came_before w1) (talk_begun LONGEST s came_before held w1 (came.2 before.2.rest before.2.represents))) in
     served_ended LONGEST c.in-Ended.finished c.pieces.short start s t before.0 came.0 c.pieces.frames now r0 r2 w0 w1 w2
-    (record { phase = new.phase; known = new.known; reported = new.reported; kept = new.kept; none = new.none; sites = new.sites })
+    c.requires
     (consumes_more r0 (g.R.Read.remaining c.pieces.reader) r2 before.0 came.0 before.1 came.1) before.2 answered
 
 pub pieces-preserved : goal.pieces-preserved
 pieces-preserved g c =
-    let start = c.new-server.result in
+    let start = c.args.server in
     let r0 = g.R.Read.remaining c.args.reader.now in
     let r2 = g.R.Read.remaining c.take_piece.new.reader in
     let w0 = g.W.Write.contents c.args.writer.now in

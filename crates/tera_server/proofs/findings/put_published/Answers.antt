@@ -2,8 +2,9 @@ use Rattle.std.proofs.Common.{◌≡◌, ◌∙◌, ◌++◌, map, string_bytes,
 use Rattle.std.proofs.lemmas.List.Concat.{flat_map-append}
 use Rattle.std.specs.List.{flat_map}
 use Rattle.tera_workspace.specs.Diagnostics.{diagnostic_view}
+use Rattle.tera_server.specs.Between.{faults_in}
 use Rattle.tera_server.specs.Findings.{found_if_on, one_found}
-use Rattle.tera_server.specs.Settings.{reported_for, reported_view, shown_in}
+use Rattle.tera_server.specs.Settings.{FaultsAlone, reported_for, reported_view, shown_in}
 use Rattle.tera_server.specs.UnreadFiles.{why_of}
 use Rattle.tera_server.proofs.FindingLemmas.{found_tokens, found_written, on_written}
 use Rattle.tera_server.proofs.Tails.{and_so}
@@ -20,7 +21,9 @@ returns c =
     let unknown = map diagnostic_view c.args.unknown.now in
     let named = map diagnostic_view c.args.named.now in
     let all = found ++ (unknown ++ named) in
-    let ds = shown_in shown all in
+    let between = faults_in c.args.publishing.between.now name in
+    let front = shown_in shown all in
+    let ds = front ++ shown_in FaultsAlone between in
     let old = c.args.out.now.tokens in
     let start = c.put_reason.new.out.tokens in
     let one = found_if_on e reported (reported_view c.reported-reported.result) in
@@ -31,10 +34,17 @@ returns c =
     ∙ append_assoc (start ++ tokens found) (tokens unknown) (tokens named)
     ∙ append_assoc start (tokens found) (tokens unknown ++ tokens named)
     ∙ ap (λ ts. start ++ ts) (ap (λ ts. tokens found ++ ts) (sym (flat_map-append one unknown named)) ∙ sym (flat_map-append one found (unknown ++ named))) in
-    let each : c.put_found-3.new.out.tokens ≡ start ++ flat_map (one_found e reported) ds =
+    let most : c.put_found-3.new.out.tokens ≡ start ++ flat_map (one_found e reported) front =
     both
     ∙ ap (λ rules. start ++ flat_map (found_if_on e reported rules) all) c.reported-reported.ensures
     ∙ ap (λ ts. start ++ ts) (on_written e reported shown all) in
+    let each : c.put_found-4.new.out.tokens ≡ start ++ flat_map (one_found e reported) ds =
+    c.in_ok-put_found-4.ensures.tokens
+    ∙ ap (λ given. c.put_found-3.new.out.tokens ++ flat_map (found_if_on e reported FaultsAlone) given) c.of-between.ensures
+    ∙ ap (λ ts. c.put_found-3.new.out.tokens ++ ts) (on_written e reported FaultsAlone between)
+    ∙ ap (λ ts. ts ++ flat_map (one_found e reported) (shown_in FaultsAlone between)) most
+    ∙ append_assoc start (flat_map (one_found e reported) front) (flat_map (one_found e reported) (shown_in FaultsAlone between))
+    ∙ ap (λ ts. start ++ ts) (sym (flat_map-append (one_found e reported) front (shown_in FaultsAlone between))) in
     record {
       tokens =
           and_so c.put_tokens-3.result c.put_tokens-3.ensures.tokens
@@ -43,5 +53,5 @@ returns c =
           rw (h, each, c.in_ok-put_reason.ensures.tokens, c.of.ensures, c.in_ok-put_tokens-2.ensures.tokens, c.in_ok-put_version.ensures.tokens, c.in_ok-put_tokens.ensures.tokens, c.as_str.ensures.value, c.in_ok-uri.ensures)
           (simp append_assoc refl) in
           written ∙ ap (λ ts. old ++ ts) (sym (found_written e reported name why ds)));
-      before = c.put_tokens-3.ensures.before ∙ c.in_ok-put_found-3.ensures.before ∙ c.in_ok-put_found-2.ensures.before ∙ c.in_ok-put_found.ensures.before ∙ c.in_ok-put_reason.ensures.before ∙ c.in_ok-put_tokens-2.ensures.before ∙ c.in_ok-put_version.ensures.before ∙ c.in_ok-put_tokens.ensures.before;
+      before = c.put_tokens-3.ensures.before ∙ c.in_ok-put_found-4.ensures.before ∙ c.in_ok-put_found-3.ensures.before ∙ c.in_ok-put_found-2.ensures.before ∙ c.in_ok-put_found.ensures.before ∙ c.in_ok-put_reason.ensures.before ∙ c.in_ok-put_tokens-2.ensures.before ∙ c.in_ok-put_version.ensures.before ∙ c.in_ok-put_tokens.ensures.before;
     }

@@ -2,7 +2,7 @@ use Rattle.std.proofs.Common.{◌≡◌, Some, None, map, option_map, string_byt
 use Rattle.json.specs.Json.{null, array}
 use Rattle.json.specs.Value.{items_of}
 use Rattle.tera_layout.specs.Layout.{laid_out}
-use Rattle.tera_lexer.specs.grammar.Marks.{default_marks}
+use Rattle.tera_lexer.specs.grammar.Marks.{marks_of}
 use Rattle.tera_server.specs.Layouts.{edit_json, AreEdits, IsLaidOut}
 use Rattle.tera_server.proofs.LayoutLemmas.{same_without_white}
 use Rattle.tera_server.proofs.Tails.{and_so}
@@ -10,14 +10,16 @@ use Rattle.tera_server.proofs.layouts.put_layout.Goals as goal
 
 pub put_edits_to-requires : goal.put_edits_to-requires
 put_edits_to-requires c =
-    let laid : laid_out default_marks c.args.text.now ≡ Some (string_bytes c.in-Some.layout) =
-    (subst (λ o. IsLaidOut c.args.text.now (option_map string_bytes o)) c.in-Some.is c.in_ok-layout.ensures).1 in
-    rw c.as_str.ensures.value (same_without_white c.args.text.now (string_bytes c.in-Some.layout) laid)
+    let m = marks_of c.args.markers.now in
+    let laid : laid_out m c.args.text.now ≡ Some (string_bytes c.in-Some.layout) =
+    (subst (λ o. IsLaidOut m c.args.text.now (option_map string_bytes o)) c.in-Some.is c.in_ok-layout.ensures).1 in
+    rw c.as_str.ensures.value (same_without_white m c.requires.valid c.requires.steady c.args.text.now (string_bytes c.in-Some.layout) laid)
 
 pub returns-in-Some-clause-tokens : goal.returns-in-Some-clause-tokens
 returns-in-Some-clause-tokens c =
+    let m = marks_of c.args.markers.now in
     let text = c.args.text.now in
-    let laid : IsLaidOut text (Some (string_bytes c.in-Some.layout)) = subst (λ o. IsLaidOut text (option_map string_bytes o)) c.in-Some.is c.in_ok-layout.ensures in
+    let laid : IsLaidOut m text (Some (string_bytes c.in-Some.layout)) = subst (λ o. IsLaidOut m text (option_map string_bytes o)) c.in-Some.is c.in_ok-layout.ensures in
     and_so c.put_edits_to.result c.put_edits_to.ensures.tokens (λ given.
     let edits = given.0 in
     let written = array (items_of (map (edit_json c.args.encoding text) edits)) in
@@ -26,6 +28,7 @@ returns-in-Some-clause-tokens c =
 
 pub returns-in-None-clause-tokens : goal.returns-in-None-clause-tokens
 returns-in-None-clause-tokens c =
+    let m = marks_of c.args.markers.now in
     let text = c.args.text.now in
-    let laid : IsLaidOut text None = subst (λ o. IsLaidOut text (option_map string_bytes o)) c.in-None.is c.in_ok-layout.ensures in
+    let laid : IsLaidOut m text None = subst (λ o. IsLaidOut m text (option_map string_bytes o)) c.in-None.is c.in_ok-layout.ensures in
     and_so c.null.result c.null.ensures.ok (λ h. (null, (None, laid, refl), h))

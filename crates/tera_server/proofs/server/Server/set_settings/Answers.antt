@@ -1,8 +1,7 @@
-use Rattle.std.proofs.Common.{◌≡◌, ◌∙◌, Some, cond, string_bytes, ap, subst}
-use Rattle.std.specs.Option.{option_map}
+use Rattle.std.proofs.Common.{◌≡◌, ◌∙◌, None, Some, cond, string_bytes, ap, subst}
 use Rattle.std.specs.Str.{bytes_eq}
 use Rattle.tera_server.specs.Settings.{settings_in, settings_view}
-use Rattle.tera_server.specs.UnreadFiles.{reason_view, why_of}
+use Rattle.tera_server.specs.UnreadFiles.{why_of}
 use Rattle.tera_server.specs.declared.server.Server.{Server}
 use Rattle.tera_server.proofs.ConfiguringLemmas.{and_both, at_itself}
 use Rattle.tera_server.proofs.Tails.{and_so}
@@ -17,5 +16,5 @@ returns-clause-set c =
     (λ both. record {
       settings = λ f. both.0 f ∙ ap (λ x. cond (bytes_eq folder f) (Some (settings_view c.args.settings)) (settings_in x f)) same;
       file = both.1 folder ∙ at_itself folder (Some (string_bytes c.args.file)) _;
-      why = subst (λ n. why_of t.unread n ≡ option_map reason_view c.args.why) c.as_str.ensures.value c.in_ok-report_why.ensures.set;
+      why = subst (λ n. why_of t.unread n ≡ None) c.as_str.ensures.value c.in_ok-report_why.ensures.set;
     })
