@@ -9,32 +9,29 @@ ghost use Rattle.message_frames.specs.Shown.{Message, shown};
 ghost use Rattle.message_frames.specs.Representing.{Represents};
 ghost use Rattle.message_frames.specs.Writing.{frame as frame_text};
 ghost use Rattle.tera_files.specs.Names.{texts};
-ghost use Rattle.tera_files.specs.declared.reading.Unread.TheVariants.{NotUtf8};
-ghost use Rattle.tera_program_parts.specs.Reasons.{not_utf8};
-ghost use Rattle.tera_exchange.specs.Reasons.{IsUnread};
 ghost use Rattle.tera_exchange.specs.Serving.{Takes, SettlesSo, Rests, IsLoaded, IsUnloaded, AreKnownGiven, AreKnownGivenInPart, AreLoaded, AreLoadedInPart, AreLibrariesGiven, AreLibrariesGivenInPart, AreListed, AreListedGiven, AreSomeGiven, AreSomeGivenInPart, AreListedGivenInPart, IsFolderGiven, IsFolderGivenInPart, IsOpenGiven, IsOpenGivenInPart, extensions, extensions_in, libraries_in, AreGiven, AreGivenInPart, AreGivenAnew, AreGivenAnewInPart, AreNamesSaid, IsGivenInPart, Gives, IsNew, IsTalking, IsWaiting, IsServed};
 ghost use Rattle.tera_server.specs.Naming.{OnlyNames};
-ghost use Rattle.tera_server.specs.States.{NeedsChanged, needed_view, needed_of, text_on};
+ghost use Rattle.tera_server.specs.States.{NeedsChanged, needed_view, needed_of};
 ghost use Rattle.tera_server.specs.KnownFiles.{is_known};
-ghost use Rattle.tera_server.specs.declared.server.OnDisk.{OnDisk};
 ghost use Rattle.tera_server.specs.declared.server.Server.{Server};
 
 use crate::aside::{is_aside, is_in_any, is_open, is_read};
+use crate::disk::{Kind, kind_of, on_disk};
 use crate::sending::send;
 use crate::settings::found_for_folder;
 use json_rpc::Outbox;
 use message_frames::{Frame, Frames};
 use settings_files::NAME;
 use std::alloc::{AllocError, Global};
+use std::io;
 use std::io::{Read, Write};
 use std::path::Path;
 use std::rt::Files;
-use std::{fs, io};
-use tera_files::{Found, Selection, Unread, ends_in, files_of, read_source};
+use tera_files::{Found, Selection, ends_in, files_of};
 use tera_program_parts::excluded::{is_excluded, leave_out_paths};
 use tera_program_parts::extensions::EXTENSIONS;
 use tera_program_parts::markers::{Unfit, other_markers_of, print_unfit};
-use tera_program_parts::output::{print_error, why_unread};
+use tera_program_parts::output::print_error;
 use tera_program_parts::settings::references;
 use tera_program_parts::site::may_be;
 use tera_program_parts::status::Ended;
@@ -64,9 +61,6 @@ const LONGEST: usize = 0x1000_0000;
 
 // How many bytes are read at once.
 const PIECE: usize = 0x1_0000;
-
-// The most bytes of a file that is read.
-const LARGEST: u64 = 0x100_0000;
 
 /// Serves an editor over standard input and output, until it ends the exchange. All templates have the six markers in
 /// these words; without words, those of their settings.
@@ -571,23 +565,6 @@ fn give_gone<F: Files + Input + AllocGlobal>(
     }
 }
 
-// What is under a path.
-#[derive(Clone, Copy)]
-enum Kind {
-    File,
-    Folder,
-    Nothing,
-}
-
-fn kind_of(files: &impl Files, path: &str) -> Kind {
-    match fs::metadata(files, path) {
-        Ok(data) if data.is_dir() => Kind::Folder,
-        Ok(_) => Kind::File,
-        Err(error) if is_gone(error.kind()) => Kind::Nothing,
-        Err(_) => Kind::File,
-    }
-}
-
 fn is_needed(alloc: Global, server: &Server, path: &str) -> Result<bool, AllocError>
     ensures { IfOk result (λ needed. needed ≡ false → is_known server.now.known path.now ≡ false) }
 {
@@ -785,40 +762,4 @@ fn give_file<F: Files + Input + AllocGlobal>(
 {
     let found = on_disk(files, path)?;
     server.load(files.alloc(), path, found)
-}
-
-// What is on disk under the path. A pipe, a device and a file that is too large are never read.
-fn on_disk<F: Files + Input + AllocGlobal>(files: &F, path: &str) -> Result<OnDisk, AllocError> {
-    let alloc = files.alloc();
-    match fs::metadata(files, path) {
-        Ok(data) if data.is_dir() => Ok(OnDisk::Nothing),
-        Ok(data) if !data.is_file() => unread_for(alloc, "it is not a regular file"),
-        Ok(data) if data.len() > LARGEST => unread_for(alloc, "it has more than 16 MiB"),
-        Ok(_) => match read_source(files, path, path) {
-            Ok(source) => Ok(OnDisk::Text(source.text)),
-            Err(why) => unread_by(alloc, why),
-        },
-        Err(error) => unread_by(alloc, Unread::from(error)),
-    }
-}
-
-// What is on disk if a file could not be read for this reason: nothing, if it does not exist.
-fn unread_by(alloc: Global, why: Unread) -> Result<OnDisk, AllocError>
-    ensures none { IfOk result (λ found. text_on found ≡ None) }
-    ensures not_utf8 { (at : ℕ) → why ≡ NotUtf8 at → IfOk result (IsUnread (not_utf8 at)) }
-{
-    match why {
-        Unread::Failed(error) if is_gone(error.kind()) => Ok(OnDisk::Nothing),
-        why => Ok(OnDisk::Unread(why_unread(alloc, why)?)),
-    }
-}
-
-fn unread_for(alloc: Global, why: &str) -> Result<OnDisk, AllocError>
-    ensures { IfOk result (IsUnread why.now) }
-{
-    Ok(OnDisk::Unread(String::from_str(alloc, why)?))
-}
-
-fn is_gone(kind: io::ErrorKind) -> bool {
-    matches!(kind, io::ErrorKind::NotFound | io::ErrorKind::NotADirectory)
 }
