@@ -15,7 +15,7 @@ use Rattle.std.proofs.lemmas.Map.Text.{is_eq-slice_cmp}
 use Rattle.std.proofs.lemmas.Slice.Eq.{bytes_eq-Decides}
 use Rattle.tera_ast.specs.View.{name_view}
 use Rattle.tera_base.proofs.Equals.{views_decide}
-use Rattle.tera_site.specs.Kept.{KeptVal, is_one_of, kept_page, kept_view, names_in}
+use Rattle.tera_site.specs.Kept.{AreAboveAlike, KeptVal, is_one_of, kept_page, kept_view, names_in}
 use Rattle.tera_site.specs.Pages.{PageVal}
 use Rattle.tera_site.specs.contracts.kept.KeptPagePartialEq.TheImpl as page_test
 use Rattle.tera_site.specs.contracts.kept.SurroundingsPartialEq.TheImpl as surroundings_test
@@ -108,6 +108,49 @@ page_decides a b =
         whole.1 (ap (λ (v : PageVal). v.is_whole) e),
       ) refl,
     )
+
+abbrev pub same_parent : KeptPage → KeptPage → Bool
+same_parent a b = option_eq string_eq a.parent b.parent
+
+abbrev pub same_blocks : KeptPage → KeptPage → Bool
+same_blocks a b = pointwise string_eq a.blocks.items b.blocks.items
+
+above_decides : (a b : KeptPage) (t : Bool) → (same_parent a b && (same_blocks a b && beq a.is_whole b.is_whole)) ≡ t → Decides t (AreAboveAlike (kept_page a) (kept_page b))
+above_decides a b t is =
+    let parents = name_decides a.parent b.parent in
+    let blocks = texts_decide a.blocks.items b.blocks.items in
+    let whole = booleans_Decides a.is_whole b.is_whole in (
+      λ e.
+          let p = both (same_parent a b) _ (is ∙ e) in
+          let q = both (same_blocks a b) _ p.1 in
+          record { parent = parents.0 p.0; blocks = blocks.0 q.0; is_whole = whole.0 q.1 },
+      λ h. sym is ∙ rw (parents.1 h.parent, blocks.1 h.blocks, whole.1 h.is_whole) refl,
+    )
+
+and_then : (p q w : Bool) → (p && q) ≡ true → (p && (q && w)) ≡ w
+and_then true true w e = refl
+and_then true false w e = cc
+and_then false q w e = cc
+
+and_not : (p q w : Bool) → (p && q) ≡ false → (p && (q && w)) ≡ false
+and_not true true w e = cc
+and_not true false w e = refl
+and_not false q w e = refl
+
+-- by two tests, and then a third
+pub above_then : (a b : KeptPage) (v : Bool) → v ≡ (same_parent a b && same_blocks a b) → v ≡ true → Decides (beq a.is_whole b.is_whole) (AreAboveAlike (kept_page a) (kept_page b))
+above_then a b v is true_is = above_decides a b (beq a.is_whole b.is_whole) (and_then (same_parent a b) (same_blocks a b) (beq a.is_whole b.is_whole) (sym is ∙ true_is))
+
+pub above_else : (a b : KeptPage) (v : Bool) → v ≡ (same_parent a b && same_blocks a b) → v ≡ false → Decides v (AreAboveAlike (kept_page a) (kept_page b))
+above_else a b v is false_is = above_decides a b v (and_not (same_parent a b) (same_blocks a b) (beq a.is_whole b.is_whole) (sym is ∙ false_is) ∙ sym false_is)
+
+pub and_first : (p q : Bool) → p ≡ true → q ≡ (p && q)
+and_first true q e = refl
+and_first false q e = cc
+
+pub and_none : (p q : Bool) → p ≡ false → false ≡ (p && q)
+and_none true q e = cc
+and_none false q e = refl
 
 abbrev surroundings_eq : Surroundings → Surroundings → Bool
 surroundings_eq = (surroundings_test.ghosts).eq

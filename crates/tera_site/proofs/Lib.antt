@@ -1,7 +1,10 @@
+pub mod ApartLemmas
 pub mod AroundLemmas
 pub mod CountLemmas
 pub mod FoundLemmas
 pub mod KeptLemmas
+pub mod LinkLemmas
+pub mod NearLemmas
 pub mod NumbersLemmas
 pub mod PageAgreement
 pub mod PageLemmas

@@ -1,5 +1,5 @@
 -- What is kept of a template apart from its tree and its site.
-use Rattle.std.specs.Prelude.{◌≡◌, ◌&&◌, ℕ, List, Bool, not, map, string_bytes, String, Some}
+use Rattle.std.specs.Prelude.{◌≡◌, ◌&&◌, ℕ, List, Bool, not, filter, map, string_bytes, String, Some}
 use Rattle.std.specs.BTreeSet.{BTreeSet, keys}
 use Rattle.std.specs.List.{list_any}
 use Rattle.std.specs.Str.{bytes_eq}
@@ -23,6 +23,16 @@ kept_page p = record {
 -- a name is one of some
 abbrev pub is_one_of : List (List ℕ) → List ℕ → Bool
 is_one_of ns n = list_any (bytes_eq n) ns
+
+-- two pages say the same to all that extend them
+pub record AreAboveAlike (p q : PageVal) : Type 0 where
+  pub parent : p.parent ≡ q.parent
+  pub blocks : p.blocks ≡ q.blocks
+  pub is_whole : p.is_whole ≡ q.is_whole
+
+-- those of the names that no template has, by what is around one that uses them
+abbrev pub names_missing : AroundVal → List (List ℕ) → List (List ℕ)
+names_missing a ns = filter (λ n. not (a.has n)) ns
 
 -- What is around a page, only under its own names: those that it uses, and those of its blocks. Under other names there
 -- is nothing, and no block is lacking.

@@ -1,13 +1,13 @@
 //! What is kept of a template apart from its tree and its site: what it says of others, and what is around it.
 
-ghost use Rattle.std.specs.Prelude.{◌≡◌, ◌&&◌, ◌||◌, ℕ, List, map, string_bytes, IfOk, OnOk};
+ghost use Rattle.std.specs.Prelude.{◌≡◌, ◌&&◌, ◌||◌, ◌++◌, ◌∷◌, [], ℕ, List, map, string_bytes, IfOk, OnOk};
 ghost use Rattle.std.specs.Option.{option_map};
 ghost use Rattle.std.specs.Str.{bytes_eq};
 ghost use Rattle.tera_ast.specs.View.{name_view};
-ghost use Rattle.tera_site.specs.Kept.{is_one_of, kept_around, kept_page, names_in, on_page};
+ghost use Rattle.tera_site.specs.Kept.{is_one_of, kept_around, kept_page, names_in, names_missing, on_page};
 ghost use Rattle.tera_site.specs.Named.{lacks};
 ghost use Rattle.tera_site.specs.Pages.{page_of};
-ghost use Rattle.tera_site.specs.Sites.{used_names};
+ghost use Rattle.tera_site.specs.Sites.{is_name, used_names};
 ghost use Rattle.tera_site.specs.Views.{around_view, names_of, page_view};
 
 use crate::pages::{Page, page_of};
@@ -19,10 +19,10 @@ use tera_check::Template;
 /// What a template says of others, and the blocks that it has.
 #[derive(Debug, Drop, PartialEq, Eq)]
 pub struct KeptPage {
-    parent: Option<String>,
+    pub(crate) parent: Option<String>,
     includes: Vec<String>,
-    blocks: Vec<String>,
-    is_whole: bool,
+    pub(crate) blocks: Vec<String>,
+    pub(crate) is_whole: bool,
 }
 
 /// What is around a template, under the names that it uses and those of its blocks.
@@ -68,6 +68,32 @@ impl KeptPage {
             blocks: texts_of(alloc, &self.blocks)?,
             is_whole: self.is_whole,
         })
+    }
+
+    /// Whether the template extends the one of this name.
+    pub fn extends(&self, name: &str) -> bool
+        ensures { result ≡ is_name (kept_page self.now).parent name.now }
+    {
+        match &self.parent {
+            Some(parent) => parent.as_str() == name,
+            None => false,
+        }
+    }
+
+    /// Adds those of the names that it uses that no template has, by what is kept of what is around it.
+    pub fn push_lacking(
+        &self,
+        alloc: Global,
+        around: &Surroundings,
+        lacking: &mut Vec<String>,
+    ) -> Result<(), AllocError>
+        ensures { OnOk result (map string_bytes lacking.new.items ≡ map string_bytes lacking.old.items
+            ++ names_missing (kept_around around.now) (used_names (kept_page self.now))) }
+    {
+        if let Some(parent) = &self.parent {
+            push_if_lacking(alloc, around, lacking, parent.as_str())?;
+        }
+        push_all_lacking(alloc, around, lacking, &self.includes)
     }
 }
 
@@ -115,6 +141,38 @@ impl Surroundings {
     {
         self.lacking.contains(block)
     }
+}
+
+// Adds those of the names that no template has.
+fn push_all_lacking(
+    alloc: Global,
+    around: &Surroundings,
+    lacking: &mut Vec<String>,
+    names: &Vec<String>,
+) -> Result<(), AllocError>
+    ensures { OnOk result (map string_bytes lacking.new.items ≡ map string_bytes lacking.old.items
+        ++ names_missing (kept_around around.now) (map string_bytes names.now.items)) }
+{
+    for name in names {
+        push_if_lacking(alloc, around, lacking, name.as_str())?;
+    }
+    Ok(())
+}
+
+// Adds the name, if no template has it.
+fn push_if_lacking(
+    alloc: Global,
+    around: &Surroundings,
+    lacking: &mut Vec<String>,
+    name: &str,
+) -> Result<(), AllocError>
+    ensures { OnOk result (map string_bytes lacking.new.items ≡ map string_bytes lacking.old.items
+        ++ names_missing (kept_around around.now) (name.now ∷ [])) }
+{
+    if !around.has(name) {
+        lacking.push(String::from_str(alloc, name)?)?;
+    }
+    Ok(())
 }
 
 // The names among these that templates have.

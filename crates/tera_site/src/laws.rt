@@ -6,7 +6,7 @@ ghost use Rattle.tera_base.specs.declared.utils.Span.{Span};
 ghost use Rattle.tera_templates.specs.declared.templates.Template.{Template};
 ghost use Rattle.tera_tree.specs.Tree.{Output};
 ghost use Rattle.tera_site.specs.Alike.{AgreeAround};
-ghost use Rattle.tera_site.specs.Kept.{kept_page, kept_view, on_page};
+ghost use Rattle.tera_site.specs.Kept.{AreAboveAlike, kept_page, kept_view, on_page};
 ghost use Rattle.tera_site.specs.Named.{due_names, names_findings};
 ghost use Rattle.tera_site.specs.Pages.{page_of};
 ghost use Rattle.tera_site.specs.Sites.{AroundVal};
@@ -32,6 +32,13 @@ pub fn same_page(a: &KeptPage, b: &KeptPage) -> bool
     ensures { Decides result (kept_page a.now ≡ kept_page b.now) }
 {
     a == b
+}
+
+/// Whether two pages say the same to all that extend them: they extend the same, and have the same blocks.
+pub fn same_above(a: &KeptPage, b: &KeptPage) -> bool
+    ensures { Decides result (AreAboveAlike (kept_page a.now) (kept_page b.now)) }
+{
+    a.parent == b.parent && a.blocks == b.blocks && a.is_whole == b.is_whole
 }
 
 /// What is kept of what is around two pages is equal exactly if it has the same names. The same is found with equal

@@ -89,7 +89,7 @@ pub kept_files : (kept : List KeptDocument) → map (λ (d : AroundFile). d.file
 kept_files [] = refl
 kept_files (d ∷ kept) = ap (λ ns. (around_file d).file ∷ ns) (kept_files kept)
 
-said_files : (js : List Judged) → map (λ (x : Said). x.file) (map said_in js) ≡ map name_of js
+pub said_files : (js : List Judged) → map (λ (x : Said). x.file) (map said_in js) ≡ map name_of js
 said_files [] = refl
 said_files (j ∷ js) = ap (λ ns. name_of j ∷ ns) (said_files js)
 

@@ -121,21 +121,6 @@ pub still_fits : (s : KeptSiteVal) (w : Workspace) (kept : List KeptDocument) (b
     → IsKeptOf s (map said_of kept) → IsKept w → AreRead w → FitsWorkspace s w
 still_fits s w kept below is said of_these = now_fits s w below is (subst (IsKeptOf s) said of_these)
 
--- ---- what is kept of the first documents is what they say
-
-pub said_next : (kept : List KeptDocument) (below : List (Bor Judged)) (number : ℕ) (d : KeptDocument) (b : Bor Judged) → number < length kept → number < length below → get_or kept number d ≡ d → get_or below number b ≡ b
-    → said_of d ≡ said_in b.now → map said_of (take number kept) ≡ map said_in (now_of (take number below)) → map said_of (take (number + 1) kept) ≡ map said_in (now_of (take (number + 1) below))
-said_next kept below number d b in_kept in_below is_kept is_below same so_far =
-    ap (map said_of) (take_more kept number d in_kept ∙ ap (λ x. take number kept ++ x ∷ []) is_kept) ∙ map_push said_of (take number kept) d
-    ∙ (λ i. so_far i ++ same i ∷ [])
-    ∙ sym (ap (λ (bs : List (Bor Judged)). map said_in (now_of bs)) (take_more below number b in_below ∙ ap (λ x. take number below ++ x ∷ []) is_below)
-    ∙ ap (map said_in) (map_push (λ (x : Bor Judged). x.now) (take number below) b) ∙ map_push said_in (now_of (take number below)) b.now)
-
-pub said_all : (kept : List KeptDocument) (below : List (Bor Judged)) (number : ℕ) → length kept ≡ length below → length below ≤ number → map said_of (take number kept) ≡ map said_in (now_of (take number below))
-    → map said_of kept ≡ map said_in (now_of below)
-said_all kept below number as_many over so_far =
-    ap (map said_of) (sym (take_all number kept (omega (arith, as_many)))) ∙ so_far ∙ ap (λ (bs : List (Bor Judged)). map said_in (now_of bs)) (take_all number below over)
-
 -- ---- documents so far
 
 pub record AreKeptSoFar (site : Site) (below : List (Bor Judged)) (number : ℕ) (kept : List KeptDocument) : Type 0 where

@@ -25,11 +25,14 @@ pub mod PathLemmas
 pub mod PlaceLemmas
 pub mod ReadSoFar
 pub mod ReadingLemmas
+pub mod RenewedLemmas
 pub mod RenewsLemmas
 pub mod SearchLemmas
 pub mod SettleLemmas
 pub mod TouchedLemmas
 pub mod UnregisteredLemmas
+pub mod NearSteps
+pub mod NearNames
 pub mod NeededLemmas
 pub mod NeedsLemmas
 pub mod WorkspaceLemmas

@@ -9,6 +9,7 @@ pub mod Judgements
 pub mod Kept
 pub mod KeptSites
 pub mod Names
+pub mod Near
 pub mod SiteValues
 pub mod Sites
 pub mod Sources

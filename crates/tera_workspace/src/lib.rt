@@ -10,7 +10,8 @@
 //! In the order of reading: specs `Sources`, `Diagnostics`, `Fresh`, `Workspaces`; `lined_text` and `diagnostics`;
 //! `judged`, a document as it was checked; `reading`, and `touched`, what a new text changes for others; `catalogue`;
 //! `news`; specs `Components`, `Judgements`, `Unregistered` and `Definitions`; `workspace`; `queries`; `judgements`;
-//! `unknown`; specs `SiteValues`, `Sites` and `sites`, then `named`; specs `Between` and `between`.
+//! `unknown`; specs `SiteValues`, `Sites` and `sites`; `near`, for one document that changed; then `named`; specs
+//! `Between` and `between`.
 #![tactic(auto)]
 
 mod between;
@@ -21,6 +22,7 @@ mod judgements;
 pub mod laws;
 mod lined_text;
 mod named;
+mod near;
 mod news;
 mod queries;
 mod reading;

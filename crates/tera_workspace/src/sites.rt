@@ -14,6 +14,7 @@ ghost use Rattle.tera_workspace.specs.Sites.{AreRenewed, IsKeptOf, around_named,
 ghost use Rattle.tera_workspace.specs.Sources.{AreInOrder};
 
 use crate::judged::Judged;
+use crate::near::{Difference, compared, renewed_at};
 use crate::workspace::Workspace;
 use std::alloc::{AllocError, Global};
 use std::cmp::Ordering;
@@ -52,9 +53,9 @@ impl Model for KeptSite {
 /// A document that is in the site: what its template says, and what is around that.
 #[derive(Drop)]
 pub(crate) struct KeptDocument {
-    file: String,
-    page: KeptPage,
-    around: Surroundings,
+    pub(crate) file: String,
+    pub(crate) page: KeptPage,
+    pub(crate) around: Surroundings,
 }
 
 impl KeptSite {
@@ -131,8 +132,27 @@ impl KeptSite {
             &workspace.documents,
             &workspace.judged,
         )?;
-        if !self.stale && are_kept(&self.documents, &below) {
-            return Ok(Vec::new(alloc));
+        if !self.stale {
+            match compared(&self.documents, &below) {
+                Difference::Same => return Ok(Vec::new(alloc)),
+                Difference::One(at) => {
+                    let renewed = renewed_at(
+                        alloc,
+                        self.root.as_str(),
+                        &self.others,
+                        &self.lacking,
+                        &self.documents,
+                        &below,
+                        at,
+                    )?;
+                    if let Some(renewed) = renewed {
+                        self.documents[at] = renewed.document;
+                        self.lacking = renewed.lacking;
+                        return Ok(renewed.names);
+                    }
+                }
+                Difference::Any => {}
+            }
         }
         let (documents, lacking) = kept_of(alloc, self.root.as_str(), &self.others, &below)?;
         let names = renewed(alloc, &self.documents, &documents)?;
@@ -188,30 +208,15 @@ fn is_there(documents: &Documents, judged: &Judged) -> bool
 }
 
 // The name of the template in this file, if it is below the root.
-fn name_below<'f>(root: &str, file: &'f str) -> Option<&'f str>
+pub(crate) fn name_below<'f>(root: &str, file: &'f str) -> Option<&'f str>
     ensures { option_map (λ n. n.now) result ≡ name_below root.now file.now }
 {
     let path = file.strip_prefix(root)?;
     path.strip_prefix("/")
 }
 
-// Whether what the templates of these documents say is what is kept.
-fn are_kept(kept: &Vec<KeptDocument>, below: &Vec<&Judged>) -> bool
-    ensures { result ≡ true →
-        map said_of kept.now.items ≡ map said_in (map (λ j. j.now) below.now.items) }
-{
-    if kept.len() != below.len() {
-        return false;
-    }
-    for (number, judged) in below.iter().enumerate() {
-        if !is_kept(&kept[number], judged) {
-            return false;
-        }
-    }
-    true
-}
-
-fn is_kept(kept: &KeptDocument, judged: &Judged) -> bool
+// Whether what the template of the document says is what is kept.
+pub(crate) fn is_kept(kept: &KeptDocument, judged: &Judged) -> bool
     ensures { result ≡ true → said_of kept.now ≡ said_in judged.now }
 {
     kept.file == judged.template.file && same_page(&kept.page, &judged.page)
@@ -219,7 +224,7 @@ fn is_kept(kept: &KeptDocument, judged: &Judged) -> bool
 
 // What is to be kept of the documents of a site: of each what its template says, and what is around that; and the names
 // that no template has.
-fn kept_of(
+pub(crate) fn kept_of(
     alloc: Global,
     root: &str,
     others: &BTreeSet<String>,

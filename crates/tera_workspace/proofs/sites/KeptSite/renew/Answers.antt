@@ -1,23 +1,89 @@
-use Rattle.std.proofs.Common.{◌≡◌, ◌∙◌, map, string_bytes, sym, ap, subst}
+use Rattle.std.proofs.Common.{◌≡◌, ◌∙◌, ℕ, List, map, set, string_bytes, MatchOption, Option, Some, sym, ap, subst, arith}
 use Rattle.tera_site.specs.Kept.{names_in}
 use Rattle.tera_workspace.specs.KeptSites.{around_file, documents_below, said_in, site_view}
+use Rattle.tera_workspace.specs.Near.{AreInSite, IsKeptBy, IsRenewed, kept_with}
 use Rattle.tera_workspace.specs.Sites.{IsKeptOf}
+use Rattle.tera_workspace.specs.declared.judged.Judged.{Judged}
+use Rattle.tera_workspace.specs.declared.near.Renewed.{Renewed}
+use Rattle.tera_workspace.specs.declared.sites.KeptDocument.{KeptDocument}
 use Rattle.tera_workspace.proofs.BelowLemmas.{kept_ordered}
 use Rattle.tera_workspace.proofs.KeptSiteLemmas.{at_root, now_fits, now_of, still_fits}
+use Rattle.tera_workspace.proofs.NearNames.{in_site}
 use Rattle.tera_workspace.proofs.RenewsLemmas.{none_renewed}
 use Rattle.tera_workspace.proofs.sites.KeptSite.renew.Goals as goal
 
-pub returns-then-are_kept-clause-fits : goal.returns-then-are_kept-clause-fits
-returns-then-are_kept-clause-fits c = λ kept read.
+is_renewed : (root : List ℕ) (others : List (List ℕ)) (kept : List KeptDocument) (js : List Judged) (at : ℕ) (o : Option Renewed) (r : Renewed) → o ≡ Some r
+    → MatchOption o (Unit {0}) (IsRenewed root others kept js at) → IsRenewed root others kept js at r
+is_renewed root others kept js at o r is h = subst (λ x. MatchOption x (Unit {0}) (IsRenewed root others kept js at)) is h
+
+pub returns-in-Same-clause-fits : goal.returns-in-Same-clause-fits
+returns-in-Same-clause-fits c = λ kept read.
     let s = c.self.inside in
     let w = c.args.workspace.now in
     let below = now_of c.in_ok-below.below.items in
     let is : below ≡ documents_below (string_bytes s.root) w.documents w.judged.items =
     c.in_ok-below.ensures ∙ ap (λ root. documents_below root w.documents w.judged.items) c.as_str.ensures.value in
-    rw (← c.self.view_is) (still_fits (site_view s) w s.documents.items below is (c.are_kept.ensures c.if-are_kept.true) (c.self.invariant.kept c.if-not-self.true) kept read)
+    rw (← c.self.view_is) (still_fits (site_view s) w s.documents.items below is c.in-Same.ensures (c.self.invariant.kept c.if-not-self.true) kept read)
 
-pub returns-then-are_kept-clause-names : goal.returns-then-are_kept-clause-names
-returns-then-are_kept-clause-names c = none_renewed (map string_bytes c.new.result.items) c.args.self.now.documents (ap (map string_bytes) c.new.ensures.items)
+pub returns-in-Same-clause-names : goal.returns-in-Same-clause-names
+returns-in-Same-clause-names c = none_renewed (map string_bytes c.new.result.items) c.args.self.now.documents (ap (map string_bytes) c.new.ensures.items)
+
+pub renewed_at-requires : goal.renewed_at-requires
+renewed_at-requires c =
+    let s = c.self.inside in
+    let w = c.args.workspace.now in
+    let below = now_of c.in_ok-below.below.items in
+    let is : below ≡ documents_below (string_bytes s.root) w.documents w.judged.items =
+    c.in_ok-below.ensures ∙ ap (λ root. documents_below root w.documents w.judged.items) c.as_str.ensures.value in
+    let root = sym c.as_str-in-One.ensures.value in
+    record {
+      site = subst (λ r. AreInSite r below) root (in_site (string_bytes s.root) w.documents w.judged.items below w.ordered is);
+      other = c.in-One.ensures;
+      kept = subst (λ r. IsKeptBy r (names_in s.others) (map string_bytes s.lacking.items) s.documents.items) root (record { ordered = c.self.invariant.ordered; fits = c.self.invariant.kept c.if-not-self.true });
+    }
+
+pub index_mut-requires : goal.index_mut-requires
+index_mut-requires c =
+    let s = c.self.inside in
+    let renewed = is_renewed c.as_str-in-One.result.now (names_in s.others) s.documents.items (now_of c.in_ok-below.below.items) c.in-One.at c.in_ok-renewed-in-One.renewed c.in-Some.renewed
+    c.in-Some.is c.in_ok-renewed-in-One.ensures in
+    let within = renewed.within in
+    omega (arith, within)
+
+pub invariant_of-self : goal.invariant_of-self
+invariant_of-self c =
+    let s = c.self.inside in
+    let w = c.args.workspace.now in
+    let below = now_of c.in_ok-below.below.items in
+    let r = c.in-Some.renewed in
+    let documents = set s.documents.items c.in-One.at r.document in
+    let renewed = is_renewed c.as_str-in-One.result.now (names_in s.others) s.documents.items below c.in-One.at c.in_ok-renewed-in-One.renewed r c.in-Some.is c.in_ok-renewed-in-One.ensures in
+    record {
+      ordered = kept_ordered _ w.documents w.judged.items below documents w.ordered c.in_ok-below.ensures renewed.said;
+      kept = λ fresh.
+          subst (IsKeptOf (kept_with (string_bytes s.root) (names_in s.others) (map string_bytes r.lacking.items) documents)) (sym renewed.said)
+          (at_root _ (string_bytes s.root) (names_in s.others) (map string_bytes r.lacking.items) (map around_file documents) (map said_in below) c.as_str-in-One.ensures.value renewed.fits);
+    }
+
+pub returns-in-Some-clause-fits : goal.returns-in-Some-clause-fits
+returns-in-Some-clause-fits c = λ kept read.
+    let s = c.self.inside in
+    let w = c.args.workspace.now in
+    let below = now_of c.in_ok-below.below.items in
+    let is : below ≡ documents_below (string_bytes s.root) w.documents w.judged.items =
+    c.in_ok-below.ensures ∙ ap (λ root. documents_below root w.documents w.judged.items) c.as_str.ensures.value in
+    let r = c.in-Some.renewed in
+    let documents = set s.documents.items c.in-One.at r.document in
+    let renewed = is_renewed c.as_str-in-One.result.now (names_in s.others) s.documents.items below c.in-One.at c.in_ok-renewed-in-One.renewed r c.in-Some.is c.in_ok-renewed-in-One.ensures in
+    now_fits (kept_with (string_bytes s.root) (names_in s.others) (map string_bytes r.lacking.items) documents) w below is
+    (at_root _ (string_bytes s.root) (names_in s.others) (map string_bytes r.lacking.items) (map around_file documents) (map said_in below) c.as_str-in-One.ensures.value renewed.fits) kept read
+
+pub returns-in-Some-clause-names : goal.returns-in-Some-clause-names
+returns-in-Some-clause-names c =
+    let s = c.self.inside in
+    let renewed = is_renewed c.as_str-in-One.result.now (names_in s.others) s.documents.items (now_of c.in_ok-below.below.items) c.in-One.at c.in_ok-renewed-in-One.renewed c.in-Some.renewed
+    c.in-Some.is c.in_ok-renewed-in-One.ensures in
+    rw (← c.self.view_is) renewed.names
 
 pub renewed-requires : goal.renewed-requires
 renewed-requires c = record {
@@ -26,8 +92,8 @@ renewed-requires c = record {
       c.args.workspace.now.ordered c.in_ok-below.ensures c.in_ok-documents.ensures.said;
 }
 
-pub invariant_of-self : goal.invariant_of-self
-invariant_of-self c =
+pub invariant_of-self-2 : goal.invariant_of-self-2
+invariant_of-self-2 c =
     let s = c.self.inside in
     let documents = c.in_ok-documents.documents.items in
     let lacking = c.in_ok-documents.lacking.items in

@@ -1,0 +1,114 @@
+-- One document of a site that says something else than before, and those to which a way leads from it.
+use Rattle.std.specs.Prelude.{◌≡◌, ◌≢◌, ◌<◌, ◌⊎◌, ℕ, List, [], ◌∷◌, true, Option, Some, unwrap_or, is_some, option_map, length, map, set, slice_get, string_bytes}
+use Rattle.std.specs.List.{Contains}
+use Rattle.tera_site.specs.Kept.{AreAboveAlike, kept_around, kept_page, kept_view, names_missing}
+use Rattle.tera_site.specs.Sites.{number_from, used_names}
+use Rattle.tera_workspace.specs.Kept.{name_of}
+use Rattle.tera_workspace.specs.KeptSites.{around_file, said_in, said_of}
+use Rattle.tera_workspace.specs.SiteValues.{KeptSiteVal}
+use Rattle.tera_workspace.specs.Sites.{AreRenewed, IsKeptOf, Said, name_below, names_said}
+use Rattle.tera_workspace.specs.Sources.{AreInOrder}
+use Rattle.tera_workspace.specs.declared.judged.Judged.{Judged}
+use Rattle.tera_workspace.specs.declared.near.Difference.{Difference}
+use Rattle.tera_workspace.specs.declared.near.Difference.TheVariants as differences
+use Rattle.tera_workspace.specs.declared.near.Renewed.{Renewed}
+use Rattle.tera_workspace.specs.declared.sites.KeptDocument.{KeptDocument}
+
+-- ---- the documents of a site
+
+abbrev pub own_name : List ℕ → Judged → List ℕ
+own_name root j = unwrap_or (name_below root (name_of j)) []
+
+pub record AreInSite (root : List ℕ) (js : List Judged) : Type 0 where
+  pub ordered : AreInOrder (map name_of js)
+  pub below : (k : ℕ) (j : Judged) → slice_get js k ≡ Some j → is_some (name_below root (name_of j)) ≡ true
+
+-- the number of the template of a name
+abbrev pub number_in : List ℕ → List Said → List ℕ → Option ℕ
+number_in root saids n = number_from 0 (names_said root saids) n
+
+abbrev pub numbers_in : List ℕ → List Judged → List ℕ → Option ℕ
+numbers_in root js n = number_in root (map said_in js) n
+
+-- ---- one of them changed
+
+-- only the document of a number says something else than before
+pub record IsOnlyOther (at : ℕ) (before now : List Said) : Type 0 where
+  pub each : length before ≡ length now
+  pub within : at < length now
+  pub files : (k : ℕ) → option_map (λ x. x.file) (slice_get before k) ≡ option_map (λ x. x.file) (slice_get now k)
+  pub rest : (k : ℕ) → (k ≡ at → ⊥) → slice_get before k ≡ slice_get now k
+
+-- how what they say differs
+abbrev pub IsDifference : List Said → List Said → Difference → Type 0
+IsDifference before now differences.Same = before ≡ now
+IsDifference before now (differences.One at) = IsOnlyOther at before now
+IsDifference before now differences.Any = Unit {0}
+
+-- no other template extends that of a number
+abbrev pub NoneExtends : List ℕ → ℕ → List Said → Type 0
+NoneExtends root at saids = (q : ℕ) (x : Said) (n : List ℕ) → slice_get saids q ≡ Some x → x.page.parent ≡ Some n → number_in root saids n ≡ Some at → ⊥
+
+-- it says the same to those that extend it
+abbrev pub AreAlikeAt : ℕ → List Said → List Said → Type 0
+AreAlikeAt at before now = (x y : Said) → slice_get before at ≡ Some x → slice_get now at ≡ Some y → AreAboveAlike x.page y.page
+
+abbrev pub ChangesNone : List ℕ → ℕ → List Said → List Said → Type 0
+ChangesNone root at before now = AreAlikeAt at before now ⊎ NoneExtends root at now
+
+-- ---- those to which a way leads
+
+abbrev pub IsOneOf : List ℕ → ℕ → Type 0
+IsOneOf numbers n = (k : ℕ) × (slice_get numbers k ≡ Some n)
+
+-- these are numbers below a bound, each once
+pub record AreRight (bound : ℕ) (numbers : List ℕ) : Type 0 where
+  pub within : (k n : ℕ) → slice_get numbers k ≡ Some n → n < bound
+  pub once : (k m n : ℕ) → slice_get numbers k ≡ Some n → slice_get numbers m ≡ Some n → k ≡ m
+
+-- numbers are added, so that those of these names are among them
+pub record Adds (numbered : List ℕ → Option ℕ) (bound : ℕ) (names : List (List ℕ)) (before now : List ℕ) : Type 0 where
+  pub same : (k n : ℕ) → slice_get before k ≡ Some n → slice_get now k ≡ Some n
+  pub right : AreRight bound before → AreRight bound now
+  pub all : (name : List ℕ) (n : ℕ) → Contains names name → numbered name ≡ Some n → IsOneOf now n
+
+-- the number of one, and those of all to which a way leads from it; and those of some names
+pub record AreNear (root : List ℕ) (saids : List Said) (at : ℕ) (names : List (List ℕ)) (near : List ℕ) : Type 0 where
+  pub first : slice_get near 0 ≡ Some at
+  pub right : AreRight (length saids) near
+  pub closed : (r : ℕ) (x : Said) (n : List ℕ) (j : ℕ) → IsOneOf near r → slice_get saids r ≡ Some x → Contains (used_names x.page) n → number_in root saids n ≡ Some j → IsOneOf near j
+  pub old : (n : List ℕ) (j : ℕ) → Contains names n → number_in root saids n ≡ Some j → IsOneOf near j
+
+-- things of these numbers
+pub record AreThose (near : List ℕ) (js those : List Judged) : Type 0 where
+  pub each : length those ≡ length near
+  pub are : (k n : ℕ) → slice_get near k ≡ Some n → slice_get those k ≡ slice_get js n
+
+abbrev pub AreSameAround : List KeptDocument → List ℕ → List KeptDocument → Type 0
+AreSameAround kept near documents =
+    (k n : ℕ) (d e : KeptDocument) → 0 < k → slice_get near k ≡ Some n → slice_get kept n ≡ Some d → slice_get documents k ≡ Some e
+    → kept_view d.around ≡ kept_view e.around
+
+-- ---- what is kept then
+
+-- the names that a template uses and that no template has
+abbrev pub own_lacking : KeptDocument → List (List ℕ)
+own_lacking d = names_missing (kept_around d.around) (used_names (kept_page d.page))
+
+-- the file of the document, if something else is around its template
+abbrev pub IsNamed : KeptDocument → KeptDocument → List (List ℕ) → Type 0
+IsNamed d e names = ((kept_view d.around ≡ kept_view e.around) × (names ≡ [])) ⊎ ((kept_view d.around ≢ kept_view e.around) × (names ≡ string_bytes d.file ∷ []))
+
+-- what is kept is by what the templates say
+abbrev pub kept_with : List ℕ → List (List ℕ) → List (List ℕ) → List KeptDocument → KeptSiteVal
+kept_with root others lacking kept = record { root = root; others = others; lacking = lacking; documents = map around_file kept }
+
+pub record IsKeptBy (root : List ℕ) (others lacking : List (List ℕ)) (kept : List KeptDocument) : Type 0 where
+  pub ordered : AreInOrder (map (λ d. d.file) (map around_file kept))
+  pub fits : IsKeptOf (kept_with root others lacking kept) (map said_of kept)
+
+pub record IsRenewed (root : List ℕ) (others : List (List ℕ)) (kept : List KeptDocument) (js : List Judged) (at : ℕ) (r : Renewed) : Type 0 where
+  pub within : at < length kept
+  pub said : map said_of (set kept at r.document) ≡ map said_in js
+  pub fits : IsKeptOf (kept_with root others (map string_bytes r.lacking.items) (set kept at r.document)) (map said_in js)
+  pub names : AreRenewed (map string_bytes r.names.items) (map around_file kept) (map around_file (set kept at r.document))
