@@ -24,7 +24,7 @@ use Rattle.tera_server.specs.declared.server.Phase.{Phase}
 use Rattle.tera_server.specs.declared.server.Phase.TheVariants.{New, Running, ShutDown}
 use Rattle.tera_server.specs.Steps.{ended_at}
 use Rattle.tera_server.specs.States.{text_on, why_on, is_there, IsLoadedAs, IsNotLoaded, edited_of, needed_of, needed_view, KeepsReported}
-use Rattle.tera_server.specs.KnownFiles.{IsKnownAs}
+use Rattle.tera_editor.specs.KnownFiles.{IsKnownAs}
 use Rattle.tera_server.specs.declared.server.OnDisk.{OnDisk}
 use Rattle.tera_server.specs.declared.server.Server.{Server}
 use Rattle.tera_server.specs.declared.server.Needed.{Needed}

@@ -1,7 +1,7 @@
 -- Files that cannot be read, and why.
 use Rattle.std.specs.Prelude.{◌≡◌, ℕ, List, None, Some}
 use Rattle.tera_server.specs.States.{text_on, why_on}
-use Rattle.tera_server.specs.UnreadFiles.{unread}
+use Rattle.tera_editor.specs.UnreadFiles.{unread}
 use Rattle.tera_server.specs.declared.server.OnDisk.{OnDisk}
 
 -- a file that cannot be read, and why

@@ -19,18 +19,18 @@ use Rattle.tera_exchange.specs.declared.server.Left.{Left}
 use Rattle.tera_exchange.specs.declared.server.Left.TheVariants as lefts
 use Rattle.tera_server.specs.Configuring.{AreAsked, IsConfiguredBy, IsUnconfigured}
 use Rattle.tera_server.specs.Naming.{OnlyNames}
-use Rattle.tera_server.specs.Settings.{SettingsVal, settings_for}
+use Rattle.tera_editor.specs.Settings.{SettingsVal, settings_for}
 use Rattle.tera_server.specs.Settling.{due_of, IsSettling, ArePublishedInPart}
 use Rattle.tera_server.specs.Sending.{unpublished_of}
-use Rattle.tera_server.specs.Sites.{AreDueAgain, AreGiven as AreOthersGiven, renewed_of, site_in}
+use Rattle.tera_editor.specs.Sites.{AreDueAgain, AreGiven as AreOthersGiven, renewed_of, site_in}
 use Rattle.tera_server.specs.States.{known_of, text_on, why_on, IsLoadedAs, IsNotLoaded, NeededVal, NeedsFile, NeedsFolder, NeedsChanged, is_there, needed_of, edited_of, Grows, KeepsReported}
 use Rattle.tera_server.specs.Steps.{ended_at, Step, IsRefused, IsUntaken}
 use Rattle.tera_server.specs.declared.configuring.FoundSettings.{FoundSettings}
 use Rattle.tera_server.specs.declared.server.Ended.{Ended}
 use Rattle.tera_server.specs.declared.server.Phase.TheVariants.{New, Running}
-use Rattle.tera_server.specs.KnownFiles.{is_known, known_names, IsKnownAs}
-use Rattle.tera_server.specs.Templates.{is_inside}
-use Rattle.tera_server.specs.UnreadFiles.{why_of}
+use Rattle.tera_editor.specs.KnownFiles.{is_known, known_names, IsKnownAs}
+use Rattle.tera_editor.specs.Templates.{is_inside}
+use Rattle.tera_editor.specs.UnreadFiles.{why_of}
 use Rattle.tera_server.specs.declared.server.OnDisk.{OnDisk}
 use Rattle.tera_server.specs.declared.server.Server.{Server}
 use Rattle.tera_workspace.specs.Workspaces.{reported_of_name, IsKept}

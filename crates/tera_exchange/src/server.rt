@@ -12,7 +12,7 @@ ghost use Rattle.tera_files.specs.Names.{texts};
 ghost use Rattle.tera_exchange.specs.Serving.{Takes, SettlesSo, Rests, IsLoaded, IsUnloaded, AreKnownGiven, AreKnownGivenInPart, AreLoaded, AreLoadedInPart, AreLibrariesGiven, AreLibrariesGivenInPart, AreListed, AreListedGiven, AreSomeGiven, AreSomeGivenInPart, AreListedGivenInPart, IsFolderGiven, IsFolderGivenInPart, IsOpenGiven, IsOpenGivenInPart, extensions, extensions_in, libraries_in, AreGiven, AreGivenInPart, AreGivenAnew, AreGivenAnewInPart, AreNamesSaid, IsGivenInPart, Gives, IsNew, IsTalking, IsWaiting, IsServed};
 ghost use Rattle.tera_server.specs.Naming.{OnlyNames};
 ghost use Rattle.tera_server.specs.States.{NeedsChanged, needed_view, needed_of};
-ghost use Rattle.tera_server.specs.KnownFiles.{is_known};
+ghost use Rattle.tera_editor.specs.KnownFiles.{is_known};
 ghost use Rattle.tera_server.specs.declared.server.Server.{Server};
 
 use crate::aside::{is_aside, is_in_any, is_open, is_read};

@@ -2,7 +2,7 @@
 
 ghost use Rattle.std.specs.Prelude.{◌≡◌, ◌-◌, Some, map, IfOk, string_bytes};
 ghost use Rattle.tera_settings.specs.Values.{texts_view};
-ghost use Rattle.tera_server.specs.Settings.{rule_view};
+ghost use Rattle.tera_editor.specs.Settings.{rule_view};
 ghost use Rattle.tera_program_parts.specs.Excluded.{AreOfPaths};
 ghost use Rattle.tera_program_parts.specs.Settings.{or_none, set_of};
 

@@ -9,7 +9,7 @@ use Rattle.tera_report.specs.Annotations.{annotation}
 use Rattle.tera_report.specs.Logs.{log_begin, log_end, result_object}
 use Rattle.tera_report.specs.FullTexts.{full_text, help_line, lines_of}
 use Rattle.tera_report.specs.Unread.{unread_annotation, unread_result}
-use Rattle.tera_server.specs.Abilities.{version}
+use Rattle.tera_answers.specs.Abilities.{version}
 use Rattle.terminal_text.specs.declared.style.Style.{Style}
 use Rattle.tera_check.specs.Found.{FoundVal}
 use Rattle.tera_jobs.specs.Sources.{Known, UnreadVal}

@@ -18,6 +18,7 @@ use crate::helps::help_at;
 use crate::reading::Unreadable;
 use json::Writer;
 use std::alloc::{AllocError, Global};
+use tera_answers::abilities::VERSION;
 use tera_check::{Finding, Found, object_of, unread_object_of};
 use tera_fixes::Suggestion;
 use tera_options::job::Form;
@@ -25,7 +26,6 @@ use tera_report::{
     begin_log, end_log, push_annotation, push_full, push_help, push_lines, push_unread_annotation,
     put_result, put_unread,
 };
-use tera_server::VERSION;
 use terminal_text::{Sources, Style};
 
 // Most findings are reported in at most so many bytes.

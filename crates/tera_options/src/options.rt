@@ -2,8 +2,8 @@
 
 use clap::{Arg, ArgAction, Command};
 use std::alloc::{AllocError, Global};
+use tera_answers::abilities::VERSION;
 use tera_program_parts::explanations::{OPTIONAL_RULES, RULES};
-use tera_server::VERSION;
 
 /// How many syntax errors of a file are reported, if nothing else is asked for.
 const MAX_FAULTS: &str = "100";

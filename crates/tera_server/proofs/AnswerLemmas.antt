@@ -19,12 +19,12 @@ use Rattle.tera_workspace.specs.Sources.{Source}
 use Rattle.tera_workspace.specs.declared.workspace.Workspace.{Workspace}
 use Rattle.tera_workspace.proofs.ContainLemmas.{first_in, later_in, none_in, in_turn, map_in, in_map, in_filter_map, in_filter, filter_in}
 use Rattle.tera_workspace.proofs.DefinedLemmas.{reported_of_defined, parameter_there}
-use Rattle.tera_server.specs.Completions.{offered, defined_names}
-use Rattle.tera_server.specs.Definitions.{first_of, is_component, template_place, place_of}
-use Rattle.tera_server.specs.Hovers.{component_in, text_at, IsHeadIn, IsHeadBy, IsHead, IsOfDefinition}
-use Rattle.tera_server.specs.References.{LookedFor, refers, is_definition, reference_json, AreReferences, AreReferencesIn, IsLookedFor, IsReferenceIn, AreAllOf}
-use Rattle.tera_server.specs.Settings.{RegisteredVal}
-use Rattle.tera_server.specs.Templates.{template_name, template_in}
+use Rattle.tera_answers.specs.Completions.{offered, defined_names}
+use Rattle.tera_answers.specs.Definitions.{first_of, is_component, template_place, place_of}
+use Rattle.tera_answers.specs.Hovers.{component_in, text_at, IsHeadIn, IsHeadBy, IsHead, IsOfDefinition}
+use Rattle.tera_answers.specs.References.{LookedFor, refers, is_definition, reference_json, AreReferences, AreReferencesIn, IsLookedFor, IsReferenceIn, AreAllOf}
+use Rattle.tera_editor.specs.Settings.{RegisteredVal}
+use Rattle.tera_editor.specs.Templates.{template_name, template_in}
 use Rattle.tera_server.proofs.NearestLemmas.{has_its_name, leads}
 
 -- ---- what is offered

@@ -13,10 +13,10 @@ use Rattle.tera_workspace.specs.Names.{is_among}
 use Rattle.tera_workspace.specs.declared.diagnostics.Diagnostic.{Diagnostic}
 use Rattle.tera_workspace.specs.declared.workspace.Workspace.{Workspace}
 use Rattle.tera_server.specs.Between.{AreFaultsFor, Faults, faults_in}
-use Rattle.tera_server.specs.Settings.{markers_for}
-use Rattle.tera_server.specs.declared.settings.Settings.{Settings}
-use Rattle.tera_server.proofs.SiteLemmas.{among_either, is_head}
-use Rattle.tera_server.proofs.TextMaps.{Updates, seen_after}
+use Rattle.tera_editor.specs.Settings.{markers_for}
+use Rattle.tera_editor.specs.declared.settings.Settings.{Settings}
+use Rattle.tera_editor.proofs.SiteLemmas.{among_either, is_head}
+use Rattle.tera_editor.proofs.TextMaps.{Updates, seen_after}
 
 -- what a map has where it has nothing, or what was put there
 pub found_after : (b : Bool) (ds : List DiagnosticVal) (o : Option (List DiagnosticVal)) → unwrap_or (cond b (Some ds) o) [] ≡ cond b ds (unwrap_or o [])

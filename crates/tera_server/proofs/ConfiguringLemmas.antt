@@ -1,32 +1,20 @@
 -- A server after the steps by which it is given settings.
-use Rattle.std.proofs.Common.{◌≡◌, ◌∙◌, ◌⊎◌, inl, inr, ◌++◌, ◌∷◌, [], ℕ, List, Bool, true, false, cond, map, string_bytes, Result, Ok, Err, OnOk, OnErr, Option, None, Some, refl, sym, ap, subst, append_assoc, rules}
+use Rattle.std.proofs.Common.{◌≡◌, ◌∙◌, ◌⊎◌, inl, inr, ◌++◌, ◌∷◌, [], ℕ, List, Bool, true, false, cond, map, string_bytes, Result, Ok, Err, OnOk, OnErr, Option, refl, sym, ap, subst, append_assoc}
 use Rattle.std.proofs.Common.{if◌then◌else◌}
 use Rattle.std.proofs.lemmas.List.{append-nil}
 use Rattle.std.proofs.lemmas.Slice.Eq.{bytes_eq-Decides}
-use Rattle.std.specs.Prelude.{◌&&◌}
 use Rattle.std.specs.List.{list_any}
 use Rattle.std.specs.Option.{option_eq}
-use Rattle.std.specs.Cmp.Lexicographic.{pointwise}
 use Rattle.std.specs.Str.{bytes_eq}
-use denote.Enum.Bare.{same_true}
-use Rattle.tera_findings.specs.contracts.finding.Severity.{the_type as the_severities}
-use Rattle.tera_findings.specs.contracts.finding.SeverityPartialEq.TheImpl as severity_test
-use Rattle.tera_findings.specs.declared.finding.Severity.{Severity}
 use Rattle.tera_server.specs.Configuring.{AreFoundSet, ArePublishedAgain, IsConfiguredBy, IsUnconfigured, settings_by, site_by}
 use Rattle.tera_server.specs.Sending.{unpublished_of}
-use Rattle.tera_server.specs.Settings.{rule_view, settings_in}
-use Rattle.tera_server.specs.Sites.{AreGiven, IsSiteAt, site_in}
+use Rattle.tera_editor.specs.Settings.{settings_in}
+use Rattle.tera_editor.specs.Sites.{AreGiven, IsSiteAt, site_in}
 use Rattle.tera_server.specs.States.{Grows, edited_by, edited_of, with_name}
-use Rattle.tera_server.specs.UnreadFiles.{ReasonVal, is_same, why_of}
-use Rattle.tera_server.specs.contracts.settings.RuleSettingPartialEq.TheImpl as rule_test
+use Rattle.tera_editor.specs.UnreadFiles.{ReasonVal, is_same, why_of}
 use Rattle.tera_server.specs.declared.configuring.FoundSettings.{FoundSettings}
 use Rattle.tera_server.specs.declared.server.Server.{Server}
-use Rattle.tera_server.specs.declared.settings.RuleSetting.{RuleSetting}
-use Rattle.tera_server.specs.declared.sites.Sites.{Sites}
-
-both_true : (a b : Bool) → (a && b) ≡ true → (a ≡ true) × (b ≡ true)
-both_true true b is = (refl, is)
-both_true false b is = absurd (cc)
+use Rattle.tera_editor.specs.declared.sites.Sites.{Sites}
 
 pub and_both : {T E : Type 0} (P Q : Type 0) (r : Result T E) → OnOk r P → OnOk r Q → OnOk r (P × Q)
 and_both P Q (Ok x) p q = (p, q)
@@ -80,30 +68,6 @@ at_itself n x y = ap (λ b. cond b x y) ((bytes_eq-Decides n n).1 refl)
 pub cond_same : {X : Type 0} (b : Bool) (x : X) → x ≡ cond b x x
 cond_same true x = refl
 cond_same false x = refl
-
--- ---- rules of two lists
-
-abbrev severity_eq : Severity → Severity → Bool
-severity_eq = (severity_test.ghosts).eq
-
-abbrev rule_eq : RuleSetting → RuleSetting → Bool
-rule_eq = (rule_test.ghosts).eq
-
-same_level : (a b : Option Severity) → option_eq severity_eq a b ≡ true → a ≡ b
-same_level None None is = refl
-same_level None (Some y) is = absurd (cc)
-same_level (Some x) None is = absurd (cc)
-same_level (Some x) (Some y) is = ap Some (same_true the_severities (search rules) x y is)
-
--- the same, where they are equal one by one
-pub same_rules : (xs ys : List RuleSetting) → pointwise rule_eq xs ys ≡ true → map rule_view xs ≡ map rule_view ys
-same_rules [] [] is = refl
-same_rules [] (y ∷ ys) is = absurd (cc)
-same_rules (x ∷ xs) [] is = absurd (cc)
-same_rules (x ∷ xs) (y ∷ ys) is =
-    let (one, rest) = both_true (rule_eq x y) (pointwise rule_eq xs ys) is in
-    let (name, level) = both_true (bytes_eq (string_bytes x.rule) (string_bytes y.rule)) (option_eq severity_eq x.level y.level) one in
-    λ i. ((bytes_eq-Decides (string_bytes x.rule) (string_bytes y.rule)).0 name i, same_level x.level y.level level i) ∷ same_rules xs ys rest i
 
 -- ---- steps after another
 

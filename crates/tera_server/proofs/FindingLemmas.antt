@@ -7,12 +7,12 @@ use Rattle.json.specs.Token.{Token, begin_object, end_object, begin_array, end_a
 use Rattle.json.specs.Tree.{json_tokens, items_tokens, members_tokens}
 use Rattle.json.specs.Value.{items_of}
 use Rattle.tera_workspace.specs.Diagnostics.{DiagnosticVal, RelatedVal}
-use Rattle.tera_server.specs.Editors.{seen_of, uri_in, version_in}
+use Rattle.tera_editor.specs.Editors.{seen_of, uri_in, version_in}
 use Rattle.tera_server.specs.Findings.{related_members, related_tokens, with_version, version_tokens, reason_json, reason_tokens, diagnostic_json, diagnostics_json, found_if_on, one_found, found_json}
-use Rattle.tera_server.specs.Settings.{Shown, shown_as, shown_in}
-use Rattle.tera_server.specs.UnreadFiles.{ReasonVal}
-use Rattle.tera_server.specs.declared.editor.Editor.{Editor}
-use Rattle.tera_server.proofs.ArrayLemmas.{items_written}
+use Rattle.tera_editor.specs.Settings.{Shown, shown_as, shown_in}
+use Rattle.tera_editor.specs.UnreadFiles.{ReasonVal}
+use Rattle.tera_editor.specs.declared.editor.Editor.{Editor}
+use Rattle.tera_answers.proofs.ArrayLemmas.{items_written}
 
 pub version_written : (v : Option ℕ) (ms : Members) → members_tokens (with_version v ms) ≡ version_tokens v ++ members_tokens ms
 version_written None ms = refl

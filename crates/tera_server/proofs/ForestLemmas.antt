@@ -2,7 +2,7 @@
 use Rattle.std.proofs.Common.{◌≡◌, ◌∙◌, ◌<◌, ◌≤◌, ◌⊎◌, ◌++◌, ◌∷◌, [], ℕ, suc, List, length, get_or, Bool, true, false, nat_lt, refl, sym, ap, subst, append_assoc, arith}
 use Rattle.std.specs.List.{AllByRecursion}
 use Rattle.tera_outline.specs.Symbols.{Outlined, AreNested}
-use Rattle.tera_server.specs.Outlines.{Forest, nothing, symbol, before, from, nested, in_order, AreWithin}
+use Rattle.tera_answers.specs.Outlines.{Forest, nothing, symbol, before, from, nested, in_order, AreWithin}
 
 -- ---- each is there once
 

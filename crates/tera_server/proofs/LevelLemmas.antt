@@ -9,7 +9,7 @@ use Rattle.tera_check.specs.Levels as check
 use Rattle.tera_findings.specs.declared.finding.Kind.{Kind}
 use Rattle.tera_check.specs.declared.levels.Levels.{Levels}
 use Rattle.tera_check.specs.declared.levels.RuleLevel.{RuleLevel}
-use Rattle.tera_server.specs.Settings.{ByRules, RuleVal, level_by, level_in, level_view}
+use Rattle.tera_editor.specs.Settings.{ByRules, RuleVal, level_by, level_in, level_view}
 
 same_set : (set : List RuleLevel) (kind : Kind) → level_in (map level_view set) kind ≡ check.set_level set kind
 same_set [] kind = refl

@@ -1,5 +1,5 @@
 -- Names that are added one after another.
-use Rattle.std.proofs.Common.{◌≡◌, ◌≢◌, ◌∙◌, ◌⊎◌, inr, ◌<◌, ◌+◌, ◌++◌, ◌∷◌, [], ℕ, List, length, drop, get_or, drop-cons, add-one, Option, None, Some, Bor, refl, sym, ap, subst, append_assoc, arith}
+use Rattle.std.proofs.Common.{◌≡◌, ◌≢◌, ◌∙◌, inr, ◌+◌, ◌++◌, ◌∷◌, [], ℕ, List, Option, None, Some, Bor, refl, sym, ap, subst, append_assoc, arith}
 use Rattle.std.specs.Option.{MatchOption}
 use Rattle.std.specs.Str.Pattern.{FindsCharSuffix, StripsSuffix}
 use Rattle.std.proofs.lemmas.List.{append-nil}
@@ -17,13 +17,6 @@ follow_next all uris (Some uri) old now h (name, is, more) = λ rest are.
 
 pub follow_done : (all : List (Option (List ℕ))) (names : List (List ℕ)) → Follow all [] names → AreNames all names
 follow_done all names h = subst (λ ns. AreNames all ns) (append-nil names) (h [] refl)
-
--- one element more
-pub drop_at : {X : Type 0} (xs : List X) (i : ℕ) (x : X) → i < length xs → drop i xs ≡ get_or xs i x ∷ drop (i + 1) xs
-drop_at xs i x within = drop-cons xs i x within ∙ rw (add-one i) refl
-
-pub drop_next : {X : Type 0} (xs : List X) (i : ℕ) (x : X) → i < length xs → x ≡ get_or xs i x → drop i xs ≡ x ∷ drop (i + 1) xs
-drop_next xs i x within is = drop_at xs i x within ∙ ap (λ y. y ∷ drop (i + 1) xs) (sym is)
 
 -- ---- a slash at the end of a path
 

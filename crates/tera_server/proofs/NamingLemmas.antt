@@ -7,10 +7,10 @@ use Rattle.tera_workspace.specs.Workspaces.{IsKept, reported_of_name}
 use Rattle.tera_workspace.specs.declared.workspace.Workspace.{Workspace}
 use Rattle.text_edits.specs.Stored.{AreSame, document_of}
 use Rattle.tera_server.specs.Naming.{AreNamesRead, OnlyNames, published_anyhow}
-use Rattle.tera_server.specs.Sites.{AddsRenewed, AreFitting, AreGiven, AreSaid, HaveOthers, renewed_of}
+use Rattle.tera_editor.specs.Sites.{AddsRenewed, AreFitting, AreGiven, AreSaid, HaveOthers, renewed_of}
 use Rattle.tera_server.specs.States.{KeepsReported, edited_of}
 use Rattle.tera_server.specs.declared.server.Server.{Server}
-use Rattle.tera_server.specs.declared.sites.Sites.{Sites}
+use Rattle.tera_editor.specs.declared.sites.Sites.{Sites}
 use Rattle.tera_server.proofs.ConfiguringLemmas.{grows_on, grows_same}
 
 pub stays_same : (s : Server) → KeepsReported s s

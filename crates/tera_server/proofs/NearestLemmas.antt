@@ -5,7 +5,7 @@ use Rattle.std.specs.Option.{option_map_or, option_or}
 use Rattle.std.specs.Str.{bytes_eq}
 use Rattle.std.proofs.lemmas.Slice.Eq.{bytes_eq-Decides}
 use Rattle.tera_workspace.proofs.ContainLemmas.{first_in, later_in, all_first}
-use Rattle.tera_server.specs.Templates.{template_name, is_named, is_below, nearer, nearest, template_in, IsTemplateOf}
+use Rattle.tera_editor.specs.Templates.{template_name, is_named, is_below, nearer, nearest, template_in, IsTemplateOf}
 
 -- ---- of the files that pass a test
 

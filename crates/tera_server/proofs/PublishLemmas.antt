@@ -17,17 +17,17 @@ use Rattle.tera_workspace.specs.Workspaces.{reported_of_name, IsKept, IsSettled,
 use Rattle.tera_workspace.specs.declared.workspace.Workspace.{Workspace}
 use Rattle.tera_workspace.proofs.NameSets.{among_append}
 use Rattle.tera_server.specs.Between.{AreFaultsFor, Faults}
-use Rattle.tera_server.specs.Editors.{state_of}
+use Rattle.tera_editor.specs.Editors.{state_of}
 use Rattle.tera_server.specs.Sending.{with_all, found_message, unless_lost, messages_in, Publisher, SendsFirst, names_once}
 use Rattle.tera_server.specs.Settling.{due_of, ArePublished, ArePublishedInPart}
 use Rattle.tera_server.specs.States.{edited_of}
-use Rattle.tera_server.specs.Sites.{AreAround, AreFitting, AreGiven, AreSaid, HaveOthers, renewed_of}
-use Rattle.tera_server.specs.declared.editor.DocumentState.{DocumentState}
-use Rattle.tera_server.specs.declared.editor.DocumentState.TheVariants.{Open, Lost, Closed}
+use Rattle.tera_editor.specs.Sites.{AreAround, AreFitting, AreGiven, AreSaid, HaveOthers, renewed_of}
+use Rattle.tera_editor.specs.declared.editor.DocumentState.{DocumentState}
+use Rattle.tera_editor.specs.declared.editor.DocumentState.TheVariants.{Open, Lost, Closed}
 use Rattle.tera_server.specs.declared.server.Server.{Server}
-use Rattle.tera_server.specs.declared.sites.Sites.{Sites}
+use Rattle.tera_editor.specs.declared.sites.Sites.{Sites}
 use Rattle.tera_server.proofs.BetweenLemmas.{none_found, of_fewer}
-use Rattle.tera_server.proofs.SiteLemmas.{among_either, around_same, is_head}
+use Rattle.tera_editor.proofs.SiteLemmas.{among_either, around_same, is_head}
 
 -- ---- more messages
 

@@ -8,19 +8,19 @@ use Rattle.json.specs.Tree.{json_tokens}
 use Rattle.json_rpc.specs.Ids.{IdVal, NullId, NumberId, TextId}
 use Rattle.json_rpc.specs.Outgoing.{Outgoing, IsAnswered}
 use Rattle.json_rpc.specs.Writing.{body, answer, answer_begin, refusal}
-use Rattle.tera_server.specs.Abilities.{abilities_json}
-use Rattle.tera_server.specs.Clients.{client_in}
+use Rattle.tera_answers.specs.Abilities.{abilities_json}
+use Rattle.tera_editor.specs.Clients.{client_in}
 use Rattle.tera_workspace.specs.Workspaces.{IsKept}
 use Rattle.tera_workspace.specs.declared.workspace.Workspace.{Workspace}
 use Rattle.text_edits.specs.Documents.{text_of}
 use Rattle.text_edits.specs.Stored.{AreSame}
 use Rattle.json_rpc.specs.declared.code.Code.{Code}
 use Rattle.json_rpc.specs.declared.code.Code.TheVariants.{InternalError}
-use Rattle.tera_server.specs.Editors.{state_of}
+use Rattle.tera_editor.specs.Editors.{state_of}
 use Rattle.tera_server.specs.Notes.{Texts}
 use Rattle.tera_server.specs.Requests.{IsBegun, HasRead, Gives, Remains, RefusesDocument, RefusesPlace, RefusesState, IsAnsweredBy}
 use Rattle.tera_server.specs.Steps.{answer_by, Answers, Follows}
-use Rattle.tera_server.specs.declared.editor.DocumentState.TheVariants.{Open}
+use Rattle.tera_editor.specs.declared.editor.DocumentState.TheVariants.{Open}
 use Rattle.tera_server.specs.declared.requests.Asked.{Asked}
 use Rattle.tera_server.specs.declared.requests.Asked.TheVariants.{Initialize, Shutdown, OfText, AtPlace, Actions, Other}
 use Rattle.tera_server.specs.declared.server.Phase.{Phase}

@@ -11,11 +11,11 @@ use Rattle.protocol_values.specs.Members.{member_of, text_in}
 use Rattle.protocol_values.specs.Reading.{changes_in}
 use Rattle.text_edits.specs.Edits.{ChangeView, NewText, NewPart, edited}
 use Rattle.text_edits.specs.declared.positions.Encoding.{Encoding}
-use Rattle.tera_server.specs.Editors.{SeenVal, seen_of, state_of, state_in, state_lost, lost}
+use Rattle.tera_editor.specs.Editors.{SeenVal, seen_of, state_of, state_in, state_lost, lost}
 use Rattle.tera_server.specs.Notes.{document_in, uri_given, version_of, IsOpened, IsChanged, IsNotedAs, IsNotedOf, IsNotedBy, IsHeldBut, Texts, IsTextAt, EditOpened, EditChanged, Edit, EditsOf, Edits, IsInStep}
 use Rattle.tera_server.specs.States.{Known, known_of, IsKnownAt, IsMissed, opened_as, with_lost, changed_as, closed_as, is_whole}
-use Rattle.tera_server.specs.declared.editor.DocumentState.{DocumentState}
-use Rattle.tera_server.specs.declared.editor.DocumentState.TheVariants.{Open, Lost, Closed}
+use Rattle.tera_editor.specs.declared.editor.DocumentState.{DocumentState}
+use Rattle.tera_editor.specs.declared.editor.DocumentState.TheVariants.{Open, Lost, Closed}
 use Rattle.tera_server.specs.declared.notes.DocumentNote.{DocumentNote}
 use Rattle.tera_server.specs.declared.notes.DocumentNote.TheVariants as of_document
 use Rattle.tera_server.specs.declared.notes.Noted.TheVariants.{OfDocument}

@@ -6,9 +6,9 @@ use Rattle.tera_workspace.specs.Between.{IsFaultOfName}
 use Rattle.tera_workspace.specs.Diagnostics.{DiagnosticVal, diagnostic_view}
 use Rattle.tera_workspace.specs.Names.{is_among}
 use Rattle.tera_workspace.specs.declared.workspace.Workspace.{Workspace}
-use Rattle.tera_server.specs.Settings.{markers_for}
+use Rattle.tera_editor.specs.Settings.{markers_for}
 use Rattle.tera_server.specs.declared.between.FaultsBetween.{FaultsBetween}
-use Rattle.tera_server.specs.declared.settings.Settings.{Settings}
+use Rattle.tera_editor.specs.declared.settings.Settings.{Settings}
 
 -- what is found in the document of a name, if it is read between its other markers
 abbrev pub Faults : Type 0

@@ -7,11 +7,11 @@ use Rattle.tera_workspace.specs.SiteValues.{KeptSiteVal, no_site}
 use Rattle.tera_workspace.specs.Workspaces.{reported_of_name}
 use Rattle.tera_workspace.specs.declared.workspace.Workspace.{Workspace}
 use Rattle.tera_server.specs.Sending.{unpublished_of}
-use Rattle.tera_server.specs.Settings.{SettingsVal, file_in, finds_more, finds_more_if_any, reported_in, settings_in, settings_view}
-use Rattle.tera_server.specs.Sites.{AreGiven, IsSiteAt, site_in}
+use Rattle.tera_editor.specs.Settings.{SettingsVal, file_in, finds_more, finds_more_if_any, reported_in, settings_in, settings_view}
+use Rattle.tera_editor.specs.Sites.{AreGiven, IsSiteAt, site_in}
 use Rattle.tera_server.specs.States.{Grows, edited_of, needed_of, needs}
-use Rattle.tera_server.specs.Templates.{is_inside}
-use Rattle.tera_server.specs.UnreadFiles.{ReasonVal, reason_view, why_of}
+use Rattle.tera_editor.specs.Templates.{is_inside}
+use Rattle.tera_editor.specs.UnreadFiles.{ReasonVal, reason_view, why_of}
 use Rattle.tera_server.specs.declared.configuring.FoundSettings.{FoundSettings}
 use Rattle.tera_server.specs.declared.configuring.FoundSettings.TheVariants as found_as
 use Rattle.tera_server.specs.declared.notes.NeededKind.TheVariants.{Folder}

@@ -11,10 +11,10 @@ use Rattle.tera_findings.specs.Findings.{kind_name}
 use Rattle.tera_findings.specs.declared.finding.Severity.TheVariants.{Error}
 use Rattle.tera_workspace.specs.Diagnostics.{DiagnosticVal, RelatedVal}
 use Rattle.text_edits.specs.declared.positions.Position.{Position}
-use Rattle.tera_server.specs.Editors.{seen_of, uri_in, version_in}
-use Rattle.tera_server.specs.Settings.{Shown, shown_as}
-use Rattle.tera_server.specs.UnreadFiles.{ReasonVal, severity_number}
-use Rattle.tera_server.specs.declared.editor.Editor.{Editor}
+use Rattle.tera_editor.specs.Editors.{seen_of, uri_in, version_in}
+use Rattle.tera_editor.specs.Settings.{Shown, shown_as}
+use Rattle.tera_editor.specs.UnreadFiles.{ReasonVal, severity_number}
+use Rattle.tera_editor.specs.declared.editor.Editor.{Editor}
 
 -- a note of a finding
 abbrev pub related_json : Editor → RelatedVal → Json

@@ -3,7 +3,7 @@ use Rattle.std.specs.Prelude.{◌≡◌, ◌++◌, ℕ, List, [], Bool}
 use Rattle.tera_workspace.specs.Definitions.{AreRead}
 use Rattle.tera_workspace.specs.Workspaces.{IsKept}
 use Rattle.text_edits.specs.Stored.{AreSame}
-use Rattle.tera_server.specs.Sites.{AreAround, AreFitting, AreGiven, AreSaid, HaveOthers, IsPresenceOf, UsedVal, renewed_of}
+use Rattle.tera_editor.specs.Sites.{AreAround, AreFitting, AreGiven, AreSaid, HaveOthers, IsPresenceOf, UsedVal, renewed_of}
 use Rattle.tera_server.specs.States.{Grows, KeepsReported, edited_of}
 use Rattle.tera_server.specs.declared.server.Server.{Server}
 

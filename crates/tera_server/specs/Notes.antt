@@ -11,12 +11,12 @@ use Rattle.protocol_values.specs.Reading.{changes_in}
 use Rattle.text_edits.specs.Edits.{ChangeView, edited}
 use Rattle.text_edits.specs.Stored.{document_of}
 use Rattle.text_edits.specs.declared.positions.Encoding.{Encoding}
-use Rattle.tera_server.specs.Abilities.{registrations_json}
-use Rattle.tera_server.specs.Editors.{state_of}
+use Rattle.tera_answers.specs.Abilities.{registrations_json}
+use Rattle.tera_editor.specs.Editors.{state_of}
 use Rattle.tera_server.specs.States.{Known, IsKnownAt, IsMissed, opened_as, takes, with_lost, changed_as, closed_as, known_of, NeededVal, needed_of, needs, edited_of, with_name, names_without, StaysBut}
-use Rattle.tera_server.specs.declared.client.Client.{Client}
-use Rattle.tera_server.specs.declared.editor.DocumentState.{DocumentState}
-use Rattle.tera_server.specs.declared.editor.DocumentState.TheVariants.{Open}
+use Rattle.tera_editor.specs.declared.client.Client.{Client}
+use Rattle.tera_editor.specs.declared.editor.DocumentState.{DocumentState}
+use Rattle.tera_editor.specs.declared.editor.DocumentState.TheVariants.{Open}
 use Rattle.tera_server.specs.declared.notes.DocumentNote.{DocumentNote}
 use Rattle.tera_server.specs.declared.notes.DocumentNote.TheVariants as of_document
 use Rattle.tera_server.specs.declared.notes.Noted.{Noted}

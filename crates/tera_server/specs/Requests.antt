@@ -22,22 +22,22 @@ use Rattle.text_edits.specs.Documents.{no_document, text_of}
 use Rattle.text_edits.specs.Stored.{document_of, AreSame}
 use Rattle.text_edits.specs.declared.positions.Encoding.{Encoding}
 use Rattle.text_edits.specs.declared.positions.Position.{Position}
-use Rattle.tera_server.specs.Abilities.{abilities_json}
-use Rattle.tera_server.specs.Actions.{ActingVal, AreWanted, wants_corrections}
-use Rattle.tera_server.specs.Clients.{client_in}
-use Rattle.tera_server.specs.Completions.{IsCompletion}
-use Rattle.tera_server.specs.Definitions.{IsNamedAt, place_of, place_json}
-use Rattle.tera_server.specs.Editors.{state_of}
-use Rattle.tera_server.specs.Hovers.{IsHead, hover_json}
-use Rattle.tera_server.specs.Layouts.{IsLayout, IsLayoutIf}
+use Rattle.tera_answers.specs.Abilities.{abilities_json}
+use Rattle.tera_answers.specs.Actions.{ActingVal, AreWanted, wants_corrections}
+use Rattle.tera_editor.specs.Clients.{client_in}
+use Rattle.tera_answers.specs.Completions.{IsCompletion}
+use Rattle.tera_answers.specs.Definitions.{IsNamedAt, place_of, place_json}
+use Rattle.tera_editor.specs.Editors.{state_of}
+use Rattle.tera_answers.specs.Hovers.{IsHead, hover_json}
+use Rattle.tera_answers.specs.Layouts.{IsLayout, IsLayoutIf}
 use Rattle.tera_server.specs.Notes.{document_in, uri_given, item_uri, AreNames}
-use Rattle.tera_server.specs.Outlines.{IsOutline}
-use Rattle.tera_server.specs.References.{declares, IsList}
-use Rattle.tera_server.specs.SemanticTokens.{AreTokens}
-use Rattle.tera_server.specs.Settings.{markers_for, registered_for}
-use Rattle.tera_server.specs.Signatures.{IsSignature}
-use Rattle.tera_server.specs.declared.editor.DocumentState.{DocumentState}
-use Rattle.tera_server.specs.declared.editor.DocumentState.TheVariants.{Open, Lost, Closed}
+use Rattle.tera_answers.specs.Outlines.{IsOutline}
+use Rattle.tera_answers.specs.References.{declares, IsList}
+use Rattle.tera_answers.specs.SemanticTokens.{AreTokens}
+use Rattle.tera_editor.specs.Settings.{markers_for, registered_for}
+use Rattle.tera_answers.specs.Signatures.{IsSignature}
+use Rattle.tera_editor.specs.declared.editor.DocumentState.{DocumentState}
+use Rattle.tera_editor.specs.declared.editor.DocumentState.TheVariants.{Open, Lost, Closed}
 use Rattle.tera_server.specs.declared.requests.Asked.{Asked}
 use Rattle.tera_server.specs.declared.requests.Asked.TheVariants as asks
 use Rattle.tera_server.specs.declared.requests.NameRequest.{NameRequest}

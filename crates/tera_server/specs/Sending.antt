@@ -11,19 +11,19 @@ use Rattle.tera_workspace.specs.Unregistered.{unknown_of_name}
 use Rattle.tera_workspace.specs.Workspaces.{reported_of_name}
 use Rattle.tera_workspace.specs.declared.workspace.Workspace.{Workspace}
 use Rattle.tera_server.specs.Between.{Faults, faults_in}
-use Rattle.tera_server.specs.Editors.{state_of}
+use Rattle.tera_editor.specs.Editors.{state_of}
 use Rattle.tera_server.specs.Findings.{published}
-use Rattle.tera_server.specs.Settings.{FaultsAlone, listing_for, registered_in, reported_for, shown_in}
-use Rattle.tera_server.specs.Sites.{site_for}
-use Rattle.tera_server.specs.declared.editor.Editor.{Editor}
-use Rattle.tera_server.specs.declared.editor.DocumentState.{DocumentState}
-use Rattle.tera_server.specs.declared.editor.DocumentState.TheVariants.{Open, Lost, Closed}
+use Rattle.tera_editor.specs.Settings.{FaultsAlone, listing_for, registered_in, reported_for, shown_in}
+use Rattle.tera_editor.specs.Sites.{site_for}
+use Rattle.tera_editor.specs.declared.editor.Editor.{Editor}
+use Rattle.tera_editor.specs.declared.editor.DocumentState.{DocumentState}
+use Rattle.tera_editor.specs.declared.editor.DocumentState.TheVariants.{Open, Lost, Closed}
 use Rattle.tera_server.specs.declared.findings.Publishing.{Publishing}
 use Rattle.tera_server.specs.declared.server.Server.{Server}
-use Rattle.tera_server.specs.declared.settings.Settings.{Settings}
-use Rattle.tera_server.specs.declared.sites.Sites.{Sites}
-use Rattle.tera_server.specs.declared.unread.UnreadFiles.{UnreadFiles}
-use Rattle.tera_server.specs.UnreadFiles.{why_of}
+use Rattle.tera_editor.specs.declared.settings.Settings.{Settings}
+use Rattle.tera_editor.specs.declared.sites.Sites.{Sites}
+use Rattle.tera_editor.specs.declared.unread.UnreadFiles.{UnreadFiles}
+use Rattle.tera_editor.specs.UnreadFiles.{why_of}
 
 -- more messages, in order
 abbrev pub with_all : Outgoing → List (List ℕ) → Outgoing

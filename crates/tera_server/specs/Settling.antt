@@ -7,7 +7,7 @@ use Rattle.tera_workspace.specs.Workspaces.{reported_of_name, IsKept, IsSettled,
 use Rattle.text_edits.specs.Stored.{AreSame}
 use Rattle.tera_server.specs.Between.{AreFaultsFor, Faults}
 use Rattle.tera_server.specs.Sending.{with_all, messages_of, unpublished_of, names_once}
-use Rattle.tera_server.specs.Sites.{AreAround, AreFitting, AreGiven, AreSaid, HaveOthers, renewed_of}
+use Rattle.tera_editor.specs.Sites.{AreAround, AreFitting, AreGiven, AreSaid, HaveOthers, renewed_of}
 use Rattle.tera_server.specs.States.{edited_of}
 use Rattle.tera_server.specs.declared.server.Phase.{Phase}
 use Rattle.tera_server.specs.declared.server.Phase.TheVariants.{New, Running, ShutDown}

@@ -9,14 +9,14 @@ use Rattle.text_edits.specs.Documents.{DocumentVal, opened, changed, closed, wri
 use Rattle.text_edits.specs.Edits.{ChangeView, NewText, NewPart}
 use Rattle.text_edits.specs.Stored.{document_of, IsChangedAt, AreSame}
 use Rattle.text_edits.specs.declared.positions.Encoding.{Encoding}
-use Rattle.tera_server.specs.Editors.{SeenVal, seen_of, state_in, with_state, lost}
-use Rattle.tera_server.specs.declared.editor.DocumentState.{DocumentState}
-use Rattle.tera_server.specs.declared.editor.DocumentState.TheVariants.{Open, Lost, Closed}
+use Rattle.tera_editor.specs.Editors.{SeenVal, seen_of, state_in, with_state, lost}
+use Rattle.tera_editor.specs.declared.editor.DocumentState.{DocumentState}
+use Rattle.tera_editor.specs.declared.editor.DocumentState.TheVariants.{Open, Lost, Closed}
 use Rattle.tera_server.specs.declared.notes.NeededKind.{NeededKind}
 use Rattle.tera_server.specs.declared.notes.NeededKind.TheVariants as kinds
-use Rattle.tera_server.specs.KnownFiles.{is_known}
-use Rattle.tera_server.specs.Settings.{finds_more_in_file}
-use Rattle.tera_server.specs.UnreadFiles.{ReasonVal, is_same, unread, why_of, IsWhyAt}
+use Rattle.tera_editor.specs.KnownFiles.{is_known}
+use Rattle.tera_editor.specs.Settings.{finds_more_in_file}
+use Rattle.tera_editor.specs.UnreadFiles.{ReasonVal, is_same, unread, why_of, IsWhyAt}
 use Rattle.tera_server.specs.declared.server.OnDisk.{OnDisk}
 use Rattle.tera_server.specs.declared.server.OnDisk.TheVariants as on_disk
 use Rattle.tera_server.specs.declared.server.Server.{Server}

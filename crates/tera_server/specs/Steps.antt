@@ -9,12 +9,12 @@ use Rattle.json_rpc.specs.Outline.{answered_id}
 use Rattle.json_rpc.specs.Writing.{body, refusal}
 use Rattle.json_rpc.specs.declared.code.Code.{Code}
 use Rattle.json_rpc.specs.declared.code.Code.TheVariants as codes_of
-use Rattle.tera_server.specs.Editors.{state_of}
+use Rattle.tera_editor.specs.Editors.{state_of}
 use Rattle.tera_server.specs.Notes.{noted_of, IsNoted, sent_by, Texts, Edits, IsInStep}
 use Rattle.tera_server.specs.Requests.{asked_of, IsAnsweredBy}
 use Rattle.tera_server.specs.Sending.{with_all}
 use Rattle.tera_server.specs.States.{IsMissed, KeepsDue, StaysBut}
-use Rattle.tera_server.specs.declared.editor.DocumentState.TheVariants.{Open}
+use Rattle.tera_editor.specs.declared.editor.DocumentState.TheVariants.{Open}
 use Rattle.tera_server.specs.declared.notes.Noted.{Noted}
 use Rattle.tera_server.specs.declared.notes.Noted.TheVariants as notes
 use Rattle.tera_server.specs.declared.requests.Asked.{Asked}

@@ -4,9 +4,9 @@ ghost use Rattle.std.specs.Prelude.{◌≡◌, ◌++◌, ◌∷◌, [], ℕ, Lis
 ghost use Rattle.tera_workspace.specs.Diagnostics.{diagnostic_view};
 ghost use Rattle.tera_server.specs.Between.{AreFaultsFor, faults_in};
 
-use crate::settings::Settings;
 use std::alloc::{AllocError, Global};
 use std::collections::BTreeMap;
+use tera_editor::settings::Settings;
 use tera_workspace::{Diagnostic, Workspace};
 
 /// The first syntax errors of documents that have other markers, by the names of the documents.

@@ -5,19 +5,19 @@ ghost use Rattle.std.specs.List.{filter, flat_map};
 ghost use Rattle.tera_workspace.specs.Definitions.{texts_read};
 ghost use Rattle.tera_server.specs.Configuring.{AreFoundSet, ArePublishedAgain, IsConfiguredBy, IsUnconfigured, finds_more_by, is_due_inside, settings_by, site_below, site_by};
 ghost use Rattle.tera_server.specs.Sending.{unpublished_of};
-ghost use Rattle.tera_server.specs.Settings.{is_in_library, reported_in, settings_for, settings_in, settings_view};
-ghost use Rattle.tera_server.specs.Sites.{AreGiven, IsSiteAt, site_in};
+ghost use Rattle.tera_editor.specs.Settings.{is_in_library, reported_in, settings_for, settings_in, settings_view};
+ghost use Rattle.tera_editor.specs.Sites.{AreGiven, IsSiteAt, site_in};
 ghost use Rattle.tera_server.specs.States.{Grows, edited_of, needed_of, needs};
-ghost use Rattle.tera_server.specs.UnreadFiles.{reason_view, why_of};
+ghost use Rattle.tera_editor.specs.UnreadFiles.{reason_view, why_of};
 ghost use Rattle.tera_server.specs.declared.configuring.FoundSettings.TheVariants as found_as;
 ghost use Rattle.tera_server.specs.declared.notes.NeededKind.TheVariants.{Folder};
 
 use crate::notes::{NeededKind, need_all};
 use crate::server::Server;
-use crate::settings::FolderSettings;
-use crate::templates::is_inside;
-use crate::unread::Reason;
 use std::alloc::{AllocError, Global};
+use tera_editor::settings::FolderSettings;
+use tera_editor::templates::is_inside;
+use tera_editor::unread::Reason;
 use tera_workspace::Workspace;
 
 /// What was found of the settings for a folder.

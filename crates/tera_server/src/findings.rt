@@ -8,18 +8,13 @@ ghost use Rattle.tera_workspace.specs.Diagnostics.{diagnostic_view, related_view
 ghost use Rattle.tera_workspace.specs.Names.{contains_name, is_among};
 ghost use Rattle.tera_workspace.specs.Unregistered.{unknown_of_name};
 ghost use Rattle.tera_server.specs.Between.{faults_in};
-ghost use Rattle.tera_server.specs.Editors.{seen_of, uri_in, version_in};
+ghost use Rattle.tera_editor.specs.Editors.{seen_of, version_in};
 ghost use Rattle.tera_server.specs.Findings.{one_related, related_tokens, one_found, found_if_on, found_json, reason_code, reason_tokens, version_tokens};
 ghost use Rattle.tera_server.specs.Sending.{with_all, messages_in, publisher, SendsFirst, named_for, names_once, unknown_for};
-ghost use Rattle.tera_server.specs.Settings.{FaultsAlone, registered_in, reported_for, reported_view, settings_view, shown_in};
-ghost use Rattle.tera_server.specs.UnreadFiles.{reason_view, severity_number, why_of};
+ghost use Rattle.tera_editor.specs.Settings.{FaultsAlone, registered_in, reported_for, reported_view, settings_view, shown_in};
+ghost use Rattle.tera_editor.specs.UnreadFiles.{reason_view, severity_number, why_of};
 
 use crate::between::FaultsBetween;
-use crate::editor::{DocumentState, Editor};
-use crate::settings::{FolderSettings, Reported, Settings};
-use crate::sites::Sites;
-use crate::unread::{Reason, UnreadFiles};
-use file_uris::uri_of;
 use json::{Token, Writer};
 use json_members::{put_number, put_tokens};
 use json_rpc::{Outbox, begin_notification, end_message};
@@ -27,6 +22,10 @@ use protocol_values::{put_location, put_range};
 use std::alloc::{AllocError, Global};
 use std::collections::BTreeSet;
 use tera_check::Severity;
+use tera_editor::editor::{DocumentState, Editor, uri_by};
+use tera_editor::settings::{FolderSettings, Reported, Settings};
+use tera_editor::sites::Sites;
+use tera_editor::unread::{Reason, UnreadFiles};
 use tera_workspace::{Diagnostic, Related, Workspace};
 use text_edits::Position;
 
@@ -216,16 +215,6 @@ fn put_found(
         put_if_on(alloc, out, publishing, reported, diagnostic)?;
     }
     Ok(())
-}
-
-/// The URI of the document of this name: as the editor writes it, if the editor reported about it.
-pub(crate) fn uri_by(alloc: Global, editor: &Editor, name: &str) -> Result<String, AllocError>
-    ensures { IfOk result (λ uri. string_bytes uri ≡ uri_in name.now (seen_of editor.now name.now)) }
-{
-    match editor.of(name) {
-        Some(seen) => seen.uri.clone(),
-        None => uri_of(alloc, name),
-    }
 }
 
 fn put_version(out: &mut Writer, editor: &Editor, name: &str) -> Result<(), AllocError>

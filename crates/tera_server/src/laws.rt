@@ -20,15 +20,15 @@ ghost use Rattle.tera_workspace.specs.Definitions.{DefinitionVal, definition_of_
 ghost use Rattle.tera_workspace.specs.Kept.{templates_of};
 ghost use Rattle.tera_workspace.specs.Sources.{Source};
 ghost use Rattle.tera_workspace.specs.declared.workspace.Workspace.{Workspace};
-ghost use Rattle.tera_server.specs.Completions.{defined_names, offered};
-ghost use Rattle.tera_server.specs.Definitions.{first_of, template_place};
-ghost use Rattle.tera_server.specs.Hovers.{IsHead, IsOfDefinition};
-ghost use Rattle.tera_server.specs.Outlines.{nested, in_order, AreWithin, IsSelectable};
-ghost use Rattle.tera_server.specs.Positions.{position_at};
-ghost use Rattle.tera_server.specs.References.{LookedFor, AreReferences, IsReferenceIn, AreAllOf};
-ghost use Rattle.tera_server.specs.Settings.{ByRules, RegisteredVal, level_by, level_view};
-ghost use Rattle.tera_server.specs.SemanticTokens.{all_kinds, kind_name, kind_number, placed, data_of, first, sent_token, read_from, end_of, AreApart};
-ghost use Rattle.tera_server.specs.Templates.{template_in, template_name, IsTemplateOf};
+ghost use Rattle.tera_answers.specs.Completions.{defined_names, offered};
+ghost use Rattle.tera_answers.specs.Definitions.{first_of, template_place};
+ghost use Rattle.tera_answers.specs.Hovers.{IsHead, IsOfDefinition};
+ghost use Rattle.tera_answers.specs.Outlines.{nested, in_order, AreWithin, IsSelectable};
+ghost use Rattle.tera_answers.specs.Positions.{position_at};
+ghost use Rattle.tera_answers.specs.References.{LookedFor, AreReferences, IsReferenceIn, AreAllOf};
+ghost use Rattle.tera_editor.specs.Settings.{ByRules, RegisteredVal, level_by, level_view};
+ghost use Rattle.tera_answers.specs.SemanticTokens.{all_kinds, kind_name, kind_number, placed, data_of, first, sent_token, read_from, end_of, AreApart};
+ghost use Rattle.tera_editor.specs.Templates.{template_in, template_name, IsTemplateOf};
 
 use tera_outline::laws::{symbols_in_text, symbols_nest};
 

@@ -2,11 +2,11 @@
 
 ghost use Rattle.std.specs.Prelude.{◌≡◌, [], map, IfOk, OnOk};
 ghost use Rattle.tera_server.specs.Naming.{AreNamesRead, IsPresenceSaid, OnlyNames};
-ghost use Rattle.tera_server.specs.Sites.{AreAround, AreDueAgain, due_of_sites, used_view};
+ghost use Rattle.tera_editor.specs.Sites.{AreAround, AreDueAgain, due_of_sites, used_view};
 
 use crate::server::Server;
-use crate::sites::UsedName;
 use std::alloc::{AllocError, Global};
+use tera_editor::sites::UsedName;
 
 impl Server {
     /// Reads the documents that changed, and finds again what is around the templates below roots. Then `due_names` has

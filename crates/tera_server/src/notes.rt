@@ -11,7 +11,7 @@ ghost use Rattle.json_rpc.specs.Writing.{body, request};
 ghost use Rattle.text_edits.specs.Edits.{change_view};
 ghost use Rattle.protocol_values.specs.Members.{seen, member_of, text_in, items_in};
 ghost use Rattle.protocol_values.specs.Reading.{changes_in};
-ghost use Rattle.tera_server.specs.Abilities.{registrations_json};
+ghost use Rattle.tera_answers.specs.Abilities.{registrations_json};
 ghost use Rattle.tera_workspace.specs.Workspaces.{IsKept};
 ghost use Rattle.tera_server.specs.Notes.{noted_of, document_in, uri_given, item_uri, version_of, AreNames, AddsName, IsBare, IsOpened, IsChanged, IsClosed, IsNotedBy, IsNoted, AreFoldersChanged, IsHeldAside, IsHeldBut, watch_requests, sent_by, Texts};
 ghost use Rattle.tera_server.specs.Sending.{with_all};
@@ -20,15 +20,15 @@ ghost use Rattle.tera_server.specs.Steps.{EditsIn, Follows};
 ghost use Rattle.tera_server.specs.declared.notes.Noted.TheVariants.{OfDocument};
 ghost use Rattle.tera_server.specs.declared.notes.NeededKind.TheVariants.{Folder, File, Changed};
 
-use crate::abilities::put_registrations;
-use crate::client::Client;
-use crate::editor::DocumentState;
 use crate::server::{Needed, Phase, Server};
 use file_uris::name_of;
 use json::Value;
 use json_rpc::{Id, Outbox, begin_request, end_message};
 use protocol_values::{changes_of, items_of, member, number_of, text_of};
 use std::alloc::{AllocError, Global};
+use tera_answers::abilities::put_registrations;
+use tera_editor::client::Client;
+use tera_editor::editor::DocumentState;
 use text_edits::Change;
 
 /// What a notification says.

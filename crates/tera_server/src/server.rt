@@ -15,26 +15,26 @@ ghost use Rattle.tera_server.specs.Sending.{unpublished_of};
 ghost use Rattle.tera_server.specs.Settling.{IsSettling, ArePublishedInPart, OnlyReports};
 ghost use Rattle.tera_server.specs.States.{IsMissed, IsLoadedAs, IsNotLoaded, known_of, text_on, why_on, is_there, needed_of, needed_view, edited_of, edited_by, edited_more, edited_with, finds_more_for, with_name, KeepsReported, StaysBut};
 ghost use Rattle.tera_server.specs.Steps.{ended_at, Step, IsRefused, IsUntaken, IsUntakenBy, KeepsUp};
-ghost use Rattle.tera_server.specs.KnownFiles.{is_known, known_names, IsKnownAs};
-ghost use Rattle.tera_server.specs.Templates.{is_inside};
-ghost use Rattle.tera_server.specs.Settings.{settings_in};
-ghost use Rattle.tera_server.specs.Sites.{AreGiven, renewed_of, site_in};
-ghost use Rattle.tera_server.specs.UnreadFiles.{reason_view, why_of, IsWhyAt};
+ghost use Rattle.tera_editor.specs.KnownFiles.{is_known, known_names, IsKnownAs};
+ghost use Rattle.tera_editor.specs.Templates.{is_inside};
+ghost use Rattle.tera_editor.specs.Settings.{settings_in};
+ghost use Rattle.tera_editor.specs.Sites.{AreGiven, renewed_of, site_in};
+ghost use Rattle.tera_editor.specs.UnreadFiles.{reason_view, why_of, IsWhyAt};
 ghost use Rattle.tera_server.specs.declared.server.Phase.TheVariants.{New};
 
 use crate::between::faults_between;
-use crate::client::Client;
-use crate::editor::Editor;
 use crate::findings::{Publishing, publish_each};
-use crate::known::KnownFiles;
 use crate::notes::{Noted, add_name};
 use crate::requests::Asked;
-use crate::settings::Settings;
-use crate::sites::Sites;
-use crate::unread::{Reason, UnreadFiles};
 use json::Scratch;
 use json_rpc::{Code, Id, Incoming, Message, Outbox, id_to_answer};
 use std::alloc::{AllocError, Global};
+use tera_editor::client::Client;
+use tera_editor::editor::Editor;
+use tera_editor::known::KnownFiles;
+use tera_editor::settings::Settings;
+use tera_editor::sites::Sites;
+use tera_editor::unread::{Reason, UnreadFiles};
 use tera_workspace::{Markers, Workspace};
 
 /// How far the exchange with a client has come.

@@ -1,6 +1,6 @@
 use Rattle.std.proofs.Common.{◌≡◌, ◌∙◌, ◌+◌, filter, map, string_bytes, ap, subst, arith}
-use Rattle.tera_server.specs.KnownFiles.{known_names}
-use Rattle.tera_server.specs.Templates.{is_inside}
+use Rattle.tera_editor.specs.KnownFiles.{known_names}
+use Rattle.tera_editor.specs.Templates.{is_inside}
 use Rattle.tera_exchange.specs.Serving.{LoadedNone, IsLoaded, IsUnloaded}
 use Rattle.tera_exchange.proofs.SendLemmas.{on_any_err}
 use Rattle.tera_exchange.proofs.ServingLemmas.{loaded_next, all_loaded, loaded_in_part, none_loaded}

@@ -2,7 +2,7 @@ use Rattle.std.proofs.Common.{◌≡◌, ◌∙◌, [], IfOk, map, string_bytes,
 use Rattle.std.specs.Option.{option_map}
 use Rattle.tera_files.specs.Names.{texts}
 use Rattle.tera_files.specs.declared.finding.Found.{Found}
-use Rattle.tera_server.specs.Settings.{settings_view}
+use Rattle.tera_editor.specs.Settings.{settings_view}
 use Rattle.tera_exchange.specs.Serving.{AreListed, extensions_in, libraries_by, libraries_in}
 use Rattle.tera_exchange.proofs.server.libraries.Goals as goal
 

@@ -1,5 +1,5 @@
 use Rattle.std.proofs.Common.{◌≡◌, map, take}
-use Rattle.tera_server.specs.Settings.{rule_view}
+use Rattle.tera_editor.specs.Settings.{rule_view}
 use Rattle.tera_program_parts.specs.Settings.{set_of}
 use Rattle.tera_exchange.proofs.settings.rules_of.Given as goal
 

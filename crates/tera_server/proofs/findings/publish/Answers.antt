@@ -1,9 +1,9 @@
 use Rattle.std.proofs.Common.{◌≡◌, ◌∙◌, ◌⊎◌, refl, subst, append_assoc}
 use Rattle.tera_server.specs.Sending.{found_message, publisher}
-use Rattle.tera_server.specs.declared.editor.DocumentState.{DocumentState}
-use Rattle.tera_server.specs.declared.editor.DocumentState.TheVariants.{Open, Closed}
+use Rattle.tera_editor.specs.declared.editor.DocumentState.{DocumentState}
+use Rattle.tera_editor.specs.declared.editor.DocumentState.TheVariants.{Open, Closed}
 use Rattle.tera_server.proofs.PublishLemmas.{one_sent}
-use Rattle.tera_server.proofs.Tails.{and_so}
+use Rattle.tera_answers.proofs.Tails.{and_so}
 use Rattle.tera_server.proofs.findings.publish.Goals as goal
 
 pub returns-in_ok-end_message-in-Open-clause-published : goal.returns-in_ok-end_message-in-Open-clause-published

@@ -2,7 +2,7 @@ use Rattle.std.proofs.Common.{◌∙◌, map, refl, append_assoc}
 use Rattle.tera_workspace.specs.Diagnostics.{related_view}
 use Rattle.tera_server.specs.Findings.{one_found}
 use Rattle.tera_server.proofs.FindingLemmas.{related_written}
-use Rattle.tera_server.proofs.Tails.{and_so}
+use Rattle.tera_answers.proofs.Tails.{and_so}
 use Rattle.tera_server.proofs.findings.put_diagnostic.Goals as goal
 
 pub returns : goal.returns

@@ -2,7 +2,7 @@ use Rattle.std.proofs.Common.{◌≡◌, ◌++◌, drop, map}
 use Rattle.std.specs.List.{flat_map}
 use Rattle.tera_workspace.specs.Diagnostics.{diagnostic_view}
 use Rattle.tera_server.specs.Findings.{found_if_on}
-use Rattle.tera_server.specs.Settings.{reported_view}
+use Rattle.tera_editor.specs.Settings.{reported_view}
 use Rattle.tera_server.proofs.findings.put_found.Given as goal
 
 abbrev pub invariant-loop-diagnostic : goal.invariant-loop-diagnostic

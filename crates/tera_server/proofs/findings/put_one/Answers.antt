@@ -1,6 +1,6 @@
 use Rattle.std.proofs.Common.{◌∙◌, refl, append_assoc}
 use Rattle.tera_server.specs.Findings.{one_related}
-use Rattle.tera_server.proofs.Tails.{and_so}
+use Rattle.tera_answers.proofs.Tails.{and_so}
 use Rattle.tera_server.proofs.findings.put_one.Goals as goal
 
 pub returns : goal.returns

@@ -4,10 +4,10 @@ use Rattle.std.specs.List.{flat_map}
 use Rattle.tera_workspace.specs.Diagnostics.{diagnostic_view}
 use Rattle.tera_server.specs.Between.{faults_in}
 use Rattle.tera_server.specs.Findings.{found_if_on, one_found}
-use Rattle.tera_server.specs.Settings.{FaultsAlone, reported_for, reported_view, shown_in}
-use Rattle.tera_server.specs.UnreadFiles.{why_of}
+use Rattle.tera_editor.specs.Settings.{FaultsAlone, reported_for, reported_view, shown_in}
+use Rattle.tera_editor.specs.UnreadFiles.{why_of}
 use Rattle.tera_server.proofs.FindingLemmas.{found_tokens, found_written, on_written}
-use Rattle.tera_server.proofs.Tails.{and_so}
+use Rattle.tera_answers.proofs.Tails.{and_so}
 use Rattle.tera_server.proofs.findings.put_published.Goals as goal
 
 pub returns : goal.returns

@@ -1,5 +1,5 @@
 use Rattle.std.proofs.Common.{◌∙◌, refl, append_assoc}
-use Rattle.tera_server.proofs.Tails.{and_so}
+use Rattle.tera_answers.proofs.Tails.{and_so}
 use Rattle.tera_server.proofs.findings.put_reason.Goals as goal
 
 pub returns : goal.returns

@@ -3,8 +3,8 @@ use Rattle.std.specs.List.{flat_map}
 use Rattle.tera_workspace.specs.Diagnostics.{related_view}
 use Rattle.tera_workspace.proofs.LeftLemmas.{left_last}
 use Rattle.tera_server.specs.Findings.{related_json, one_related}
-use Rattle.tera_server.proofs.ArrayLemmas.{items_written}
-use Rattle.tera_server.proofs.Tails.{and_so}
+use Rattle.tera_answers.proofs.ArrayLemmas.{items_written}
+use Rattle.tera_answers.proofs.Tails.{and_so}
 use Rattle.tera_server.proofs.findings.put_related.Goals as goal
 
 pub returns : goal.returns

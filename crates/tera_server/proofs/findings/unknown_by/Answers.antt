@@ -2,8 +2,8 @@ use Rattle.std.proofs.Common.{◌≡◌, map, IfOk, subst}
 use Rattle.tera_rules.specs.Registered.{registered_view}
 use Rattle.tera_workspace.specs.Diagnostics.{diagnostic_view}
 use Rattle.tera_workspace.specs.Unregistered.{unknown_of_name}
-use Rattle.tera_server.specs.Settings.{settings_view}
-use Rattle.tera_server.proofs.ListLemmas.{same_registered}
+use Rattle.tera_editor.specs.Settings.{settings_view}
+use Rattle.tera_editor.proofs.ListLemmas.{same_registered}
 use Rattle.tera_server.proofs.findings.unknown_by.Goals as goal
 
 pub returns : goal.returns

@@ -2,7 +2,7 @@ use Rattle.std.proofs.Common.{◌≡◌, ◌∙◌, [], map, IfOk, Option, sym, 
 use Rattle.std.specs.Option.{option_map, option_map_or}
 use Rattle.tera_workspace.specs.Diagnostics.{diagnostic_view}
 use Rattle.tera_workspace.specs.Unregistered.{unknown_of_name}
-use Rattle.tera_server.specs.Settings.{SettingsVal, registered_in, settings_view}
+use Rattle.tera_editor.specs.Settings.{SettingsVal, registered_in, settings_view}
 use Rattle.tera_server.proofs.findings.unknown_in.Goals as goal
 
 pub returns-in-Some : goal.returns-in-Some

@@ -1,6 +1,6 @@
 use Rattle.std.proofs.Common.{length, get_or}
 use Rattle.tera_outline.specs.Symbols.{outline_of}
-use Rattle.tera_server.proofs.SelectionLemmas.{selectable}
+use Rattle.tera_answers.proofs.SelectionLemmas.{selectable}
 use Rattle.tera_server.proofs.laws.names_within.Goals as goal
 
 pub returns : goal.returns

@@ -1,8 +1,8 @@
 use Rattle.std.proofs.Common.{inr, refl, arith}
 use Rattle.tera_outline.specs.SemanticTokens.{semantic_tokens_of}
 use Rattle.tera_outline.proofs.SemanticLemmas.{tokens_sound}
-use Rattle.tera_server.specs.SemanticTokens.{first}
-use Rattle.tera_server.proofs.TokenLemmas.{begins_first, read_back, all_apart, all_end}
+use Rattle.tera_answers.specs.SemanticTokens.{first}
+use Rattle.tera_answers.proofs.TokenLemmas.{begins_first, read_back, all_apart, all_end}
 use Rattle.tera_server.proofs.laws.semantic_tokens_read_back.Goals as goal
 
 pub returns-clause-read : goal.returns-clause-read

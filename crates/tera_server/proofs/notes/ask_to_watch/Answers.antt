@@ -1,7 +1,7 @@
 use Rattle.std.proofs.Common.{◌≡◌, codes, refl, append_assoc}
 use Rattle.json_rpc.specs.Ids.{TextId}
 use Rattle.json_rpc.specs.Writing.{body, request}
-use Rattle.tera_server.specs.Abilities.{registrations_json}
+use Rattle.tera_answers.specs.Abilities.{registrations_json}
 use Rattle.tera_server.proofs.notes.ask_to_watch.Goals as goal
 
 pub returns-clause-sent : goal.returns-clause-sent

@@ -3,7 +3,8 @@ use Rattle.std.proofs.lemmas.List.{drop_all}
 use Rattle.json.specs.Value.{value_view}
 use Rattle.protocol_values.specs.Members.{text_in}
 use Rattle.tera_server.specs.Notes.{AddsName, item_uri}
-use Rattle.tera_server.proofs.NameLemmas.{Follow, follow_next, follow_done, drop_next}
+use Rattle.tera_server.proofs.NameLemmas.{Follow, follow_next, follow_done}
+use Rattle.tera_answers.proofs.DropLemmas.{drop_next}
 use Rattle.tera_server.proofs.notes.names_in.Goals as goal
 
 pub loop-item-preserved : goal.loop-item-preserved

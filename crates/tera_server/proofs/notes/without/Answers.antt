@@ -3,7 +3,7 @@ use Rattle.std.specs.List.{list_any}
 use Rattle.std.specs.Str.{bytes_eq}
 use Rattle.std.proofs.lemmas.List.{map-append}
 use Rattle.tera_server.specs.States.{names_without}
-use Rattle.tera_server.proofs.NameLemmas.{drop_next}
+use Rattle.tera_answers.proofs.DropLemmas.{drop_next}
 use Rattle.tera_server.proofs.WithName.{without_kept, without_left}
 use Rattle.tera_server.proofs.notes.without.Goals as goal
 use Rattle.tera_server.proofs.notes.without.Goals.{then-not-has_name+in_ok-from_str+in_ok-push, else-not-has_name}

@@ -2,7 +2,7 @@ use Rattle.std.proofs.Common.{refl, sym, subst}
 use Rattle.json.specs.Json.{null}
 use Rattle.tera_server.specs.Requests.{IsResultBetween}
 use Rattle.tera_server.specs.declared.requests.TextRequest.{TextRequest}
-use Rattle.tera_server.proofs.Tails.{and_so}
+use Rattle.tera_answers.proofs.Tails.{and_so}
 use Rattle.tera_server.proofs.requests.put_result_between.Goals as goal
 
 pub returns-in-Symbols-clause-tokens : goal.returns-in-Symbols-clause-tokens

@@ -1,7 +1,7 @@
 use Rattle.std.proofs.Common.{refl}
 use Rattle.tera_server.proofs.ConfiguringLemmas.{configured, grows_same, unconfigured}
 use Rattle.tera_server.proofs.PublishLemmas.{on_any_err}
-use Rattle.tera_server.proofs.Tails.{and_so}
+use Rattle.tera_answers.proofs.Tails.{and_so}
 use Rattle.tera_server.proofs.server.Server.configure.Goals as goal
 
 pub returns-in_err-publish_if_others-clause-err : goal.returns-in_err-publish_if_others-clause-err

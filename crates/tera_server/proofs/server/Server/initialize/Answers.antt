@@ -2,9 +2,9 @@ use Rattle.std.proofs.Common.{◌≡◌, ◌∙◌, ◌++◌, refl, ap}
 use Rattle.json.specs.Tree.{json_tokens}
 use Rattle.json_rpc.specs.Writing.{answer_begin}
 use Rattle.protocol_values.specs.Members.{seen}
-use Rattle.tera_server.specs.Abilities.{abilities_json}
-use Rattle.tera_server.specs.Clients.{client_in}
-use Rattle.tera_server.specs.declared.client.Client.{Client}
+use Rattle.tera_answers.specs.Abilities.{abilities_json}
+use Rattle.tera_editor.specs.Clients.{client_in}
+use Rattle.tera_editor.specs.declared.client.Client.{Client}
 use Rattle.tera_server.proofs.RequestLemmas.{answered}
 use Rattle.tera_server.proofs.server.Server.initialize.Goals as goal
 

@@ -1,6 +1,6 @@
 use Rattle.std.proofs.Common.{◌∙◌, ap, sym}
 use Rattle.tera_server.specs.Configuring.{settings_by}
-use Rattle.tera_server.specs.Settings.{reported_in, settings_in}
+use Rattle.tera_editor.specs.Settings.{reported_in, settings_in}
 use Rattle.tera_server.proofs.server.Server.keeps_report.Goals as goal
 
 pub returns-in-Nothing : goal.returns-in-Nothing

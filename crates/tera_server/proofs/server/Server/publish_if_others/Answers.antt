@@ -2,7 +2,7 @@ use Rattle.std.proofs.Common.{◌∙◌, ◌++◌, filter, map, inl, inr, refl, 
 use Rattle.tera_workspace.specs.Definitions.{texts_read}
 use Rattle.tera_server.specs.Configuring.{is_due_inside}
 use Rattle.tera_server.specs.Sending.{unpublished_of}
-use Rattle.tera_server.proofs.Tails.{and_so}
+use Rattle.tera_answers.proofs.Tails.{and_so}
 use Rattle.tera_server.proofs.ConfiguringLemmas.{grows_same, published_grows}
 use Rattle.tera_server.proofs.server.Server.publish_if_others.Goals as goal
 

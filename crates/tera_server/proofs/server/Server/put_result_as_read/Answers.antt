@@ -1,7 +1,7 @@
 use Rattle.std.proofs.Common.{◌≡◌, ◌∙◌, None, Some, map, option_map, string_bytes, sym, ap, subst}
 use Rattle.tera_server.specs.Requests.{IsResultAsRead}
-use Rattle.tera_server.specs.Settings.{markers_for}
-use Rattle.tera_server.proofs.Tails.{and_so}
+use Rattle.tera_editor.specs.Settings.{markers_for}
+use Rattle.tera_answers.proofs.Tails.{and_so}
 use Rattle.tera_server.proofs.server.Server.put_result_as_read.Goals as goal
 
 pub returns-in-Some-clause-tokens : goal.returns-in-Some-clause-tokens

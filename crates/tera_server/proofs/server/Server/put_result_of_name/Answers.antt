@@ -2,9 +2,9 @@ use Rattle.std.proofs.Common.{option_map, refl, sym, subst}
 use Rattle.json.specs.Json.{null}
 use Rattle.protocol_values.specs.Members.{seen}
 use Rattle.tera_outline.specs.Names.{name_view}
-use Rattle.tera_server.specs.References.{declares}
+use Rattle.tera_answers.specs.References.{declares}
 use Rattle.tera_server.specs.Requests.{AreListed, IsResultOfName}
-use Rattle.tera_server.proofs.Tails.{and_so}
+use Rattle.tera_answers.proofs.Tails.{and_so}
 use Rattle.tera_server.proofs.server.Server.put_result_of_name.Goals as goal
 
 pub returns-in-None-clause-tokens : goal.returns-in-None-clause-tokens

@@ -1,8 +1,8 @@
 use Rattle.std.proofs.Common.{◌∙◌}
 use Rattle.std.specs.Option.{option_map}
-use Rattle.tera_server.specs.UnreadFiles.{reason_view, why_of}
+use Rattle.tera_editor.specs.UnreadFiles.{reason_view, why_of}
 use Rattle.tera_server.proofs.ConfiguringLemmas.{at_itself, reason_grows}
-use Rattle.tera_server.proofs.Tails.{and_so}
+use Rattle.tera_answers.proofs.Tails.{and_so}
 use Rattle.tera_server.proofs.server.Server.report_why.Goals as goal
 
 pub returns-clause-set : goal.returns-clause-set

@@ -1,6 +1,6 @@
 use Rattle.std.proofs.Common.{refl}
 use Rattle.tera_server.proofs.NamingLemmas.{only_sites}
-use Rattle.tera_server.proofs.Tails.{and_so}
+use Rattle.tera_answers.proofs.Tails.{and_so}
 use Rattle.tera_server.proofs.server.Server.set_presence.Goals as goal
 
 pub returns-clause-only : goal.returns-clause-only

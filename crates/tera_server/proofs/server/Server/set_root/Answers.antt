@@ -2,7 +2,7 @@ use Rattle.std.proofs.Common.{[], OnOk, Some, string_bytes, subst, sym, ap}
 use Rattle.std.specs.Option.{option_map}
 use Rattle.tera_workspace.specs.SiteValues.{no_site}
 use Rattle.tera_server.specs.Configuring.{site_below}
-use Rattle.tera_server.specs.Sites.{IsSiteAt}
+use Rattle.tera_editor.specs.Sites.{IsSiteAt}
 use Rattle.tera_server.proofs.server.Server.set_root.Goals as goal
 
 pub returns-in-Some-clause-set : goal.returns-in-Some-clause-set

@@ -1,10 +1,10 @@
 use Rattle.std.proofs.Common.{◌≡◌, ◌∙◌, None, Some, cond, string_bytes, ap, subst}
 use Rattle.std.specs.Str.{bytes_eq}
-use Rattle.tera_server.specs.Settings.{settings_in, settings_view}
-use Rattle.tera_server.specs.UnreadFiles.{why_of}
+use Rattle.tera_editor.specs.Settings.{settings_in, settings_view}
+use Rattle.tera_editor.specs.UnreadFiles.{why_of}
 use Rattle.tera_server.specs.declared.server.Server.{Server}
 use Rattle.tera_server.proofs.ConfiguringLemmas.{and_both, at_itself}
-use Rattle.tera_server.proofs.Tails.{and_so}
+use Rattle.tera_answers.proofs.Tails.{and_so}
 use Rattle.tera_server.proofs.server.Server.set_settings.Goals as goal
 
 pub returns-clause-set : goal.returns-clause-set

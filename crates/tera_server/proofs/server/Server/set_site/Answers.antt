@@ -1,6 +1,6 @@
 use Rattle.std.proofs.Common.{OnOk, subst, sym}
 use Rattle.tera_server.specs.Configuring.{site_by}
-use Rattle.tera_server.specs.Sites.{IsSiteAt, site_in}
+use Rattle.tera_editor.specs.Sites.{IsSiteAt, site_in}
 use Rattle.tera_server.specs.declared.configuring.FoundSettings.{FoundSettings}
 use Rattle.tera_server.proofs.ConfiguringLemmas.{site_stays}
 use Rattle.tera_server.proofs.server.Server.set_site.Goals as goal

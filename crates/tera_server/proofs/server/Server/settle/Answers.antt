@@ -4,7 +4,7 @@ use Rattle.tera_workspace.specs.Workspaces.{reported_of_name}
 use Rattle.tera_server.specs.Between.{faults_in}
 use Rattle.tera_server.specs.Sending.{with_all, messages_in, names_once}
 use Rattle.tera_server.specs.Settling.{due_of, IsSettling}
-use Rattle.tera_server.specs.Sites.{renewed_of}
+use Rattle.tera_editor.specs.Sites.{renewed_of}
 use Rattle.tera_server.specs.declared.server.Phase.TheVariants.{Running}
 use Rattle.tera_server.specs.declared.server.Server.{Server}
 use Rattle.tera_server.proofs.PublishLemmas.{NameList, names_of, with_found, publisher_by, is_other, part_before, part_none, part_same, part_due, part_others, published_whole, on_any_err}

@@ -1,0 +1,11 @@
+pub mod ActionLemmas
+pub mod ArrayLemmas
+pub mod CompletionLemmas
+pub mod DropLemmas
+pub mod LayoutLemmas
+pub mod NestingLemmas
+pub mod ReferenceLemmas
+pub mod SelectionLemmas
+pub mod SignatureLemmas
+pub mod Tails
+pub mod TokenLemmas

@@ -1,0 +1,7 @@
+use Rattle.std.proofs.Common.{◌≡◌, drop, map}
+use Rattle.std.specs.List.{find}
+use Rattle.tera_outline.specs.Names.{name_view, holds}
+use Rattle.tera_answers.proofs.signatures.name_holding.Given as goal
+
+abbrev pub invariant-loop-name : goal.invariant-loop-name
+invariant-loop-name l = find (holds l.byte) (map name_view l.names) ≡ find (holds l.byte) (map name_view (drop l.name-index l.names))

@@ -1,0 +1,11 @@
+pub mod Abilities
+pub mod Actions
+pub mod Completions
+pub mod Definitions
+pub mod Hovers
+pub mod Layouts
+pub mod Outlines
+pub mod Positions
+pub mod References
+pub mod SemanticTokens
+pub mod Signatures

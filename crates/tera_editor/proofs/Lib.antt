@@ -1,0 +1,7 @@
+pub mod EditorLemmas
+pub mod ListLemmas
+pub mod RuleLemmas
+pub mod SiteLemmas
+pub mod TemplateNames
+pub mod TextMaps
+pub mod UnreadLemmas

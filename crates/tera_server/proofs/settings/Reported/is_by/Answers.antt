@@ -1,8 +1,0 @@
-use Rattle.std.proofs.Common.{◌∙◌, ap, sym}
-use Rattle.tera_server.specs.Settings.{ByRules, reported_view}
-use Rattle.tera_server.proofs.ConfiguringLemmas.{same_rules}
-use Rattle.tera_server.proofs.settings.Reported.is_by.Goals as goal
-
-pub returns-in-By : goal.returns-in-By
-returns-in-By c = λ is.
-    ap ByRules (same_rules c.args.rules.now c.in-By.own.now (sym c.eq.ensures ∙ is)) ∙ sym (ap reported_view c.in-By.is)

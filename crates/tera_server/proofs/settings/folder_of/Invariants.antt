@@ -1,7 +1,0 @@
-use Rattle.std.proofs.Common.{◌≡◌, drop, map, string_bytes}
-use Rattle.tera_server.specs.Settings.{folder_of}
-use Rattle.tera_server.proofs.settings.folder_of.Given as goal
-
-abbrev pub invariant-loop-folder : goal.invariant-loop-folder
-invariant-loop-folder l =
-    folder_of (map string_bytes l.folders) l.path ≡ folder_of (map string_bytes (drop l.folder-index l.folders)) l.path

@@ -1,4 +1,0 @@
-use Rattle.tera_server.proofs.signatures.put_label.Goals as goal
-
-pub returns : goal.returns
-returns c = c.put_tokens.ensures

@@ -1,7 +1,0 @@
-use Rattle.std.proofs.Common.{◌≡◌, drop}
-use Rattle.tera_server.specs.Sites.{site_in}
-use Rattle.tera_server.proofs.SiteLemmas.{site_found}
-use Rattle.tera_server.proofs.sites.Sites.of_folder.Given as goal
-
-abbrev pub invariant-loop-one : goal.invariant-loop-one
-invariant-loop-one l = site_in l.self l.folder ≡ site_found l.folder (drop l.one-index l.one-items)

@@ -1,6 +1,0 @@
-use Rattle.tera_server.specs.Sites.{used_view}
-use Rattle.tera_server.proofs.SiteLemmas.{SaidSoFar}
-use Rattle.tera_server.proofs.sites.Sites.set_presence.Given as goal
-
-abbrev pub invariant-loop-number : goal.invariant-loop-number
-invariant-loop-number l = SaidSoFar l.number (used_view l.used) l.is_there l.initial.self l.self

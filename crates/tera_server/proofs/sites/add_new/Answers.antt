@@ -1,8 +1,0 @@
-use Rattle.std.proofs.Common.{string_bytes, true}
-use Rattle.tera_server.proofs.SiteLemmas.{put_other}
-use Rattle.tera_server.proofs.sites.add_new.Goals as goal
-
-pub returns-clause-kept : goal.returns-clause-kept
-returns-clause-kept c = λ q apart.
-    put_other c.args.name.now (string_bytes c.in_ok-from_str.field-0) c.args.presences.now c.insert.new.self (record { is_there = true; is_due = true }) c.in_ok-from_str.ensures.ok
-    c.in_ok-insert.ensures.updates q apart
