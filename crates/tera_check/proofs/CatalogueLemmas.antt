@@ -4,7 +4,7 @@ use Rattle.std.proofs.Common.{Bor, Global, String}
 use Rattle.std.specs.BTreeMap.{BTreeMap}
 use Rattle.std.specs.Option.{option_map, option_copied}
 use Rattle.tera_base.specs.declared.utils.Span.{Span}
-use Rattle.tera_statements.specs.Known.{located_of}
+use Rattle.tera_tags.specs.Known.{located_of}
 use Rattle.tera_rules.specs.declared.known.Known.{Known}
 use Rattle.std.specs.Str.{bytes_eq}
 use Rattle.std.proofs.lemmas.Slice.Eq.{bytes_eq-Decides}

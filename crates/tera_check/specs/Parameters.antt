@@ -7,7 +7,7 @@ use Rattle.tera_ast.specs.View.{nodes_of}
 use Rattle.tera_ast.specs.Tree.{Expr, Const, Array, Map, Var, GetAttr, GetItem, Slice, Filter, Test, Ternary, ListComprehension, ComponentCall, FunctionCall, UnaryOperation, BinaryOperation}
 use Rattle.tera_ast.specs.Tree.{MaybeExpr, NoExpr, OneExpr, Filters, NoFilters, OneFilter, Args, NoArgs, Arg, Items, NoItems, Item, SpreadItem, Entries, NoEntries, Entry, SpreadEntry}
 use Rattle.tera_ast.specs.Tree.{Stmt, Content, Shown, Set, BlockSet, Include, Block, ForLoop, Break, Continue, If, FilterSection, Nodes, NoNodes, OneNode}
-use Rattle.tera_statements.specs.Known.{grouped_of}
+use Rattle.tera_tags.specs.Known.{grouped_of}
 use Rattle.tera_grammar.specs.statements.Reading.Meeting.{Located}
 use Rattle.tera_tree.specs.Tree.{Definition}
 use Rattle.tera_findings.specs.Findings.{FindingVal, FindingOf, span_if_any}

@@ -10,7 +10,7 @@ use Rattle.tera_tree.specs.Tree.{Output}
 use Rattle.tera_tree.specs.declared.outputs.ParserOutput.{ParserOutput}
 use Rattle.tera_grammar.specs.Limits.{usual}
 use Rattle.tera_grammar.specs.statements.Top.{Derives}
-use Rattle.tera_statements.specs.declared.names.Names.{Names}
+use Rattle.tera_tags.specs.declared.names.Names.{Names}
 use Rattle.tera_parser.specs.Notes.{NotesName}
 use Rattle.tera_grammar.proofs.statements.Wholes.{derived}
 use Rattle.tera_mend.specs.Cuts.{IsCut, IsUncut}

@@ -1,7 +1,7 @@
 -- What is answered of a text that was reached.
 use Rattle.std.specs.Prelude.{◌≡◌, ◌⊎◌, ℕ, true, false, List, [], map, string_bytes}
 use Rattle.tera_tree.specs.declared.outputs.ParserOutput.{ParserOutput}
-use Rattle.tera_statements.specs.declared.names.Names.{Names}
+use Rattle.tera_tags.specs.declared.names.Names.{Names}
 use Rattle.tera_mend.specs.Mending.{Edits}
 use Rattle.tera_mend.specs.Readings.{AreOf}
 use Rattle.tera_mend.specs.Views.{edit_view}

@@ -7,8 +7,8 @@ use Rattle.tera_tree.specs.declared.outputs.ParserOutput.{ParserOutput}
 use Rattle.tera_grammar.specs.Limits.{usual}
 use Rattle.tera_grammar.specs.statements.Places.{Places}
 use Rattle.tera_grammar.specs.statements.Top.{Derives, DerivesNames}
-use Rattle.tera_statements.specs.Known.{AreNames}
-use Rattle.tera_statements.specs.declared.names.Names.{Names}
+use Rattle.tera_tags.specs.Known.{AreNames}
+use Rattle.tera_tags.specs.declared.names.Names.{Names}
 use Rattle.tera_parser.specs.Notes.{NotesName}
 use Rattle.tera_mend.specs.Mending.{Fails}
 use Rattle.tera_mend.specs.declared.reading.Reading.{Reading}

@@ -10,7 +10,7 @@ ghost use Rattle.tera_mend.specs.Readings.{AreOf, IsReadingOf};
 ghost use Rattle.tera_parser.specs.Comments.{IsCommentsAlone};
 ghost use Rattle.tera_parser.specs.Notes.{NotesName};
 ghost use Rattle.tera_parser.specs.Refusal.{LosesSource, Refuses};
-ghost use Rattle.tera_statements.specs.Known.{AreNames};
+ghost use Rattle.tera_tags.specs.Known.{AreNames};
 ghost use Rattle.tera_tree.specs.Outputs.{output_view};
 ghost use Rattle.tera_tree.specs.Tree.{Output};
 

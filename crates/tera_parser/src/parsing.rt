@@ -40,7 +40,7 @@ impl<'a> Model for Parser<'a> {
 }
 
 impl<'a> Parser<'a> {
-    ghost use Rattle.tera_statements.specs.Known.{AreNames};
+    ghost use Rattle.tera_tags.specs.Known.{AreNames};
     ghost use Rattle.tera_tree.specs.Outputs.{output_view};
     ghost use Rattle.tera_grammar.specs.statements.Places.{Places};
     ghost use Rattle.tera_tree.specs.Tree.{Output};

@@ -16,7 +16,7 @@ use Rattle.tera_tree.specs.declared.ast.ArgType.{ArgType}
 use Rattle.tera_rules.specs.Bodies.{is_blank_body}
 use Rattle.tera_findings.specs.Findings.{NoteVal, NoteOf, FindingVal, FindingOf}
 use Rattle.tera_grammar.specs.statements.Reading.Meeting.{Located, nothing_located}
-use Rattle.tera_statements.specs.Known.{located_of}
+use Rattle.tera_tags.specs.Known.{located_of}
 use Rattle.tera_rules.specs.Passed.{NamedVal, PassedVal, OneNamed, Whatever, is_passed, has_whatever, passed_by}
 use Rattle.tera_rules.specs.Repeated.{repeated_findings}
 use Rattle.tera_rules.specs.declared.arguments.Remark.{Remark}

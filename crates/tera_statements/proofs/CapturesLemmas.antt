@@ -20,8 +20,8 @@ use Rattle.tera_grammar.specs.statements.Reading.TagParts.{closed, closed_tag, f
 use Rattle.tera_grammar.specs.statements.Reading.Components.{is_name}
 use Rattle.tera_grammar.proofs.stops.Parts.{filters_steps}
 use Rattle.tera_statements.specs.Captures.{IsNone}
-use Rattle.tera_statements.specs.Heads.{attributes_to_end, expression_to_end, filters_to_end, section_to_end}
-use Rattle.tera_statements.proofs.HeadsLemmas.{filters_unended, one_to_end, two_to_end}
+use Rattle.tera_tags.specs.Heads.{attributes_to_end, expression_to_end, filters_to_end, section_to_end}
+use Rattle.tera_tags.proofs.HeadsLemmas.{filters_unended, one_to_end, two_to_end}
 
 module _ (l : Limits) (self : Reader) (path : Path) (global : Bool) (start : Edge) (first : Span) (seen : Seen) where
   -- after the name comes a value, or not

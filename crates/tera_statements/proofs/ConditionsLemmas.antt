@@ -21,14 +21,14 @@ use Rattle.tera_ast.specs.declared.ast.Node.{Node}
 use Rattle.tera_grammar.specs.Reads.{Read, found, stopped, ◌>>=◌}
 use Rattle.tera_statements.specs.Adding.{AreBranches, GivesHere, IsBody, IsElse}
 use Rattle.tera_statements.specs.Conditions.{Conditional, conditional_of}
-use Rattle.tera_statements.specs.Heads.{expression_to_end, loop_to_end}
-use Rattle.tera_statements.proofs.HeadsLemmas.{one_to_end}
+use Rattle.tera_tags.specs.Heads.{expression_to_end, loop_to_end}
+use Rattle.tera_tags.proofs.HeadsLemmas.{one_to_end}
 use Rattle.tera_grammar.proofs.statements.Loops.{is_elif}
 use Rattle.tera_grammar.proofs.Readings.{some_of}
 use Rattle.tera_grammar.proofs.statements.TagParts.{closed_sound}
 use Rattle.tera_grammar.proofs.stops.ForgetParts.{closed_forget}
-use Rattle.tera_statements.specs.Kinds.{closes}
-use Rattle.tera_statements.specs.declared.fronts.Closer.TheVariants as closers
+use Rattle.tera_tags.specs.Kinds.{closes}
+use Rattle.tera_tags.specs.declared.fronts.Closer.TheVariants as closers
 use Rattle.tera_expect.proofs.Steps.{failed_as}
 
 -- a loop

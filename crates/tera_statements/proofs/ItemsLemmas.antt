@@ -15,10 +15,10 @@ use Rattle.tera_grammar.specs.statements.Reading.{Place, Reader, Reads, at, show
 use Rattle.tera_grammar.specs.statements.Reading.TagParts as reading
 use Rattle.tera_grammar.specs.statements.Reading.TagParts.{front, variable_end_of, wrong_at}
 use Rattle.tera_grammar.proofs.statements.TagParts.{FrontOf, front_is}
-use Rattle.tera_statements.specs.Kinds.{kind_of, opener_kind, opener_of}
-use Rattle.tera_statements.specs.declared.fronts.Front.TheVariants as fronts
-use Rattle.tera_statements.specs.declared.fronts.Opener.{Opener}
-use Rattle.tera_statements.specs.declared.fronts.Closer.{Closer}
+use Rattle.tera_tags.specs.Kinds.{kind_of, opener_kind, opener_of}
+use Rattle.tera_tags.specs.declared.fronts.Front.TheVariants as fronts
+use Rattle.tera_tags.specs.declared.fronts.Opener.{Opener}
+use Rattle.tera_tags.specs.declared.fronts.Closer.{Closer}
 
 -- a text comes next
 pub record HoldsText (ts : Items) : Type 0 where

@@ -28,16 +28,16 @@ use Rattle.tera_grammar.proofs.statements.Loops.{begins_extends, first_step, oth
 use Rattle.tera_grammar.specs.statements.Top.{is_blank, is_empty}
 use Rattle.tera_grammar.specs.statements.Reading.Meeting.{Seen}
 use Rattle.tera_statements.specs.Items.{AreEmptyTexts, Enters, GoesByItem}
-use Rattle.tera_statements.specs.Kinds.{kind_of, opens_extends}
-use Rattle.tera_statements.specs.declared.fronts.Front as fronts
-use Rattle.tera_statements.specs.declared.fronts.Front.TheVariants as kinds
-use Rattle.tera_statements.specs.declared.fronts.Opener.TheVariants as openers
+use Rattle.tera_tags.specs.Kinds.{kind_of, opens_extends}
+use Rattle.tera_tags.specs.declared.fronts.Front as fronts
+use Rattle.tera_tags.specs.declared.fronts.Front.TheVariants as kinds
+use Rattle.tera_tags.specs.declared.fronts.Opener.TheVariants as openers
 use Rattle.tera_expr_parts.specs.Allowed.{AreValid}
 use Rattle.tera_expect.specs.Taking.{RefusesIn, Took}
 use Rattle.tera_expect.proofs.NotesLemmas.{notes_none}
 use Rattle.tera_statements.specs.Templates.{Excludes, GivesPhase, GivesTemplate, GivesTextPhase, IsStep, ReadsTemplate, RefusesTemplate, ComesNext, StopsLate, TopOf, late, top_depth, phase_if_any, phase_of}
 use Rattle.tera_statements.specs.declared.templates.Phase.{Phase}
-use Rattle.tera_statements.specs.declared.names.Names.{Names}
+use Rattle.tera_tags.specs.declared.names.Names.{Names}
 use Rattle.tera_tree.specs.declared.outputs.ParserOutput.{ParserOutput}
 use Rattle.tera_grammar.specs.Reads.{Read, found, stopped, StopsAt, Fails}
 use Rattle.tera_statements.proofs.ItemsLemmas.{step_holds}

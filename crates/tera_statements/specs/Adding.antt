@@ -11,12 +11,12 @@ use Rattle.tera_grammar.specs.statements.TagParts.{Edge}
 use Rattle.tera_grammar.specs.statements.Reading.{Place, at, Reads}
 use Rattle.tera_grammar.specs.statements.Reading.Meeting.{Seen}
 use Rattle.tera_statements.specs.Around.{Represents}
-pub use Rattle.tera_statements.specs.Known.{seen_of}
+pub use Rattle.tera_tags.specs.Known.{seen_of}
 use Rattle.tera_grammar.specs.Reads.{found, Fails}
 use Rattle.tera_expect.specs.Taking.{GivesIn}
 use Rattle.tera_statements.specs.declared.added.Added.{Added}
 use Rattle.tera_statements.specs.declared.added.Added.TheVariants as added
-use Rattle.tera_statements.specs.declared.names.Names.{Names}
+use Rattle.tera_tags.specs.declared.names.Names.{Names}
 use Rattle.tera_statements.specs.declared.around.Around.{Around}
 
 abbrev pub added_view : Added → Adds

@@ -10,8 +10,8 @@ use Rattle.tera_grammar.specs.statements.Grammar.{Body, Path, in_loop}
 use Rattle.tera_grammar.specs.statements.TagParts.{Edge}
 use Rattle.tera_grammar.specs.statements.Reading.{Place, Reads, at, body}
 use Rattle.tera_statements.specs.Adding.{GivesHere, IsBody}
-use Rattle.tera_statements.specs.Heads.{expression_to_end}
-use Rattle.tera_statements.specs.Reading.{IsExpression}
+use Rattle.tera_tags.specs.Heads.{expression_to_end}
+use Rattle.tera_tags.specs.Reading.{IsExpression}
 use Rattle.tera_statements.specs.declared.conditions.Branch.{Branch}
 
 abbrev pub branch_view : Branch → Expr × List Stmt

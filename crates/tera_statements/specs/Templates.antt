@@ -24,9 +24,9 @@ use Rattle.tera_grammar.specs.statements.Top.{IsTemplate}
 use Rattle.tera_statements.specs.Adding.{IsAdded}
 use Rattle.tera_grammar.specs.Reads.{found, stopped, ◌>>=◌, Takes, StopsAt, Fails}
 use Rattle.tera_expect.specs.Taking.{RefusesIn}
-use Rattle.tera_statements.specs.Known.{AreNames}
+use Rattle.tera_tags.specs.Known.{AreNames}
 use Rattle.tera_statements.specs.declared.added.Added.{Added}
-use Rattle.tera_statements.specs.declared.names.Names.{Names}
+use Rattle.tera_tags.specs.declared.names.Names.{Names}
 use Rattle.tera_tree.specs.Outputs.{output_view}
 use Rattle.tera_tree.specs.declared.outputs.ParserOutput.{ParserOutput}
 use Rattle.tera_statements.specs.declared.templates.Phase.{Phase}

@@ -8,29 +8,31 @@ ghost use Rattle.tera_grammar.specs.statements.TagParts.{Name};
 ghost use Rattle.tera_grammar.specs.statements.Reading.Meeting.{locate};
 ghost use Rattle.tera_statements.specs.Adding.{AddsBy, here, seen_of};
 ghost use Rattle.tera_statements.specs.Blocks.{IsName, new_block_of};
-ghost use Rattle.tera_statements.specs.Known.{located_of, met_of};
-ghost use Rattle.tera_statements.specs.Knowing.{RefusesKnowing, known_at};
-ghost use Rattle.tera_statements.specs.Settings.{bodies_under, limits_under};
+ghost use Rattle.tera_tags.specs.Known.{located_of, met_of};
+ghost use Rattle.tera_statements.specs.Around.{known_at};
+ghost use Rattle.tera_tags.specs.Knowing.{RefusesKnowing};
+ghost use Rattle.tera_tags.specs.Settings.{bodies_under, limits_under};
 ghost use Rattle.tera_expect.specs.Taking.{GivesBy, Passes, Refuses, Took, name_in};
 
 use crate::added::Added;
 use crate::around::{Around, Context, Opening};
 use crate::bodies::body;
-use crate::components::{closing_tag, opening_tag};
-use crate::faults::{nested_definition, renamed, repeated_block};
-use crate::fronts::Closer;
-use crate::names::{Known, Names, keep_name, place_of};
-use crate::settings::Setting;
+use crate::faults::{nested_definition, repeated_block};
 use crate::simple::check_block;
-use crate::tag_parts::{closed, finish};
 use tera_base::{Error, Span, Spanned};
 use tera_expect::{eat_name, name};
 use tera_lexer::Cursor;
+use tera_tags::components::{closing_tag, opening_tag};
+use tera_tags::faults::renamed;
+use tera_tags::fronts::Closer;
+use tera_tags::names::{Known, Names, keep_name, place_of};
+use tera_tags::settings::Setting;
+use tera_tags::tag_parts::{closed, finish};
 use tera_tree::{ComponentDefinition, build};
 
 /// Reads the rest of a block, whose word was taken last.
 #[cycle(bodies)]
-#[tactic(auto, using(crate::proofs::OnTheWay::through_tags))]
+#[tactic(auto, using(tera_tags::proofs::OnTheWay::through_tags))]
 pub(crate) fn block(
     setting: &Setting<'_>,
     cursor: &mut Cursor<'_>,
@@ -78,7 +80,7 @@ fn new_block<'a>(cursor: &mut Cursor<'a>, blocks: &mut Known) -> Result<(&'a str
 }
 
 // The closing tag of the block with this name.
-#[tactic(auto, using(crate::proofs::OnTheWay::through_tags))]
+#[tactic(auto, using(tera_tags::proofs::OnTheWay::through_tags))]
 fn block_end(cursor: &mut Cursor<'_>, name: &str) -> Result<(), Error>
     ensures gives { (n : Name) → n.text ≡ name.now →
         Passes result cursor.new.left (block_end n cursor.old.left) }
@@ -110,7 +112,7 @@ fn check_name(cursor: &Cursor<'_>, name: &str, end: &str) -> Result<(), Error>
 
 /// Reads the rest of the definition of a component, whose word was taken last.
 #[cycle(bodies)]
-#[tactic(auto, using(crate::proofs::OnTheWay::through_tags))]
+#[tactic(auto, using(tera_tags::proofs::OnTheWay::through_tags))]
 pub(crate) fn definition(
     setting: &Setting<'_>,
     cursor: &mut Cursor<'_>,

@@ -5,7 +5,7 @@ ghost use Rattle.tera_grammar.specs.statements.Grammar.{Path, in_loop};
 ghost use Rattle.tera_statements.specs.Adding.{GivesHere, IsBody, here};
 ghost use Rattle.tera_statements.specs.Items.{GivesNode, GoesByItem};
 ghost use Rattle.tera_statements.specs.Around.{Represents, context_of};
-ghost use Rattle.tera_statements.specs.Settings.{bodies_under, limits_under};
+ghost use Rattle.tera_tags.specs.Settings.{bodies_under, limits_under};
 ghost use Rattle.tera_expect.specs.Taking.{GoesOn, Refuses, RefusesIn};
 ghost use Rattle.tera_ast.specs.View.{node_view};
 
@@ -13,16 +13,16 @@ use crate::added::{push_node, push_text};
 use crate::around::{Around, Opening};
 use crate::faults::too_deep;
 use crate::items::{eat_text, item};
-use crate::names::Names;
-use crate::settings::Setting;
 use crate::simple::Extension;
 use tera_base::Error;
 use tera_lexer::Cursor;
+use tera_tags::names::Names;
+use tera_tags::settings::Setting;
 use tera_tree::Node;
 
 /// Reads a body inside of what was opened, where so many may still open.
 #[cycle(bodies)]
-#[tactic(auto, using(tera_expect::proofs::TakingLemmas::on_the_way, crate::proofs::RefusalLemmas::inside_further))]
+#[tactic(auto, using(tera_expect::proofs::TakingLemmas::on_the_way, tera_tags::proofs::RefusalLemmas::inside_further))]
 pub(crate) fn body(
     setting: &Setting<'_>,
     cursor: &mut Cursor<'_>,
@@ -61,7 +61,7 @@ pub(crate) fn body(
 
 // Takes the next item of a body, where one is there, and returns what keeps a template from extending another after it.
 #[cycle(bodies)]
-#[tactic(auto, using(crate::proofs::RefusalLemmas::memory_inside))]
+#[tactic(auto, using(tera_tags::proofs::RefusalLemmas::memory_inside))]
 fn next_node<'p>(
     setting: &Setting<'_>,
     cursor: &mut Cursor<'_>,
@@ -89,7 +89,7 @@ fn next_node<'p>(
 
 // Takes what the next item of a body adds, where one is there, and returns the same.
 #[cycle(bodies)]
-#[tactic(auto, using(crate::proofs::RefusalLemmas::memory_inside))]
+#[tactic(auto, using(tera_tags::proofs::RefusalLemmas::memory_inside))]
 fn item_node<'p>(
     setting: &Setting<'_>,
     cursor: &mut Cursor<'_>,

@@ -8,8 +8,8 @@ ghost use Rattle.tera_grammar.specs.statements.Reading.Expressions.{component_of
 ghost use Rattle.tera_grammar.specs.statements.Reading.{call_end, call_of, section_of, set_of};
 ghost use Rattle.tera_statements.specs.Adding.{AddsBy, here, seen_of};
 ghost use Rattle.tera_statements.specs.Captures.{GivesSetBody, GivesSetValue, IsCallEnd, IsNoBody};
-ghost use Rattle.tera_statements.specs.Reading.{IsComponent};
-ghost use Rattle.tera_statements.specs.Settings.{bodies_under, limits_under};
+ghost use Rattle.tera_tags.specs.Reading.{IsComponent};
+ghost use Rattle.tera_tags.specs.Settings.{bodies_under, limits_under};
 ghost use Rattle.tera_expect.specs.Taking.{GivesBy, Refuses, Took};
 ghost use Rattle.tera_ast.specs.Tree as tree;
 ghost use Rattle.tera_ast.specs.View.{expression_view, node_view};
@@ -18,16 +18,16 @@ use crate::added::Added;
 use crate::around::{Around, Context, Opening};
 use crate::bodies::body;
 use crate::faults::{no_called_name, nothing_to_set, other_call, unclosed_call};
-use crate::fronts::Closer;
-use crate::heads::{attributes_to_end, expression_to_end, filters_to_end, section_to_end};
-use crate::names::Names;
-use crate::settings::Setting;
-use crate::tag_parts::{closed, closed_tag, finish};
 use tera_base::{Error, Span};
 use tera_expect::{Fixed, begins_name, eat, expect};
 use tera_expr_parts::{free_name, spanning};
 use tera_expr_reader::component_name;
 use tera_lexer::{Cursor, Token};
+use tera_tags::fronts::Closer;
+use tera_tags::heads::{attributes_to_end, expression_to_end, filters_to_end, section_to_end};
+use tera_tags::names::Names;
+use tera_tags::settings::Setting;
+use tera_tags::tag_parts::{closed, closed_tag, finish};
 use tera_tree::{Expression, Node, build};
 
 /// A variable that is set, for the whole template or not.
@@ -86,7 +86,7 @@ fn set_value(
 
 // The filters and the body that a variable takes, after its name.
 #[cycle(bodies)]
-#[tactic(auto, using(crate::proofs::OnTheWay::through_tags))]
+#[tactic(auto, using(tera_tags::proofs::OnTheWay::through_tags))]
 fn set_body(
     setting: &Setting<'_>,
     cursor: &mut Cursor<'_>,
@@ -124,7 +124,7 @@ fn check_set(cursor: &Cursor<'_>) -> Result<(), Error>
 
 /// Reads the rest of a filter section, whose word was taken last.
 #[cycle(bodies)]
-#[tactic(auto, using(crate::proofs::OnTheWay::through_tags))]
+#[tactic(auto, using(tera_tags::proofs::OnTheWay::through_tags))]
 pub(crate) fn section(
     setting: &Setting<'_>,
     cursor: &mut Cursor<'_>,
@@ -150,7 +150,7 @@ pub(crate) fn section(
 
 /// Reads the rest of a call of a component, whose `<` was taken last.
 #[cycle(bodies)]
-#[tactic(auto, using(crate::proofs::OnTheWay::through_tags))]
+#[tactic(auto, using(tera_tags::proofs::OnTheWay::through_tags))]
 pub(crate) fn call(
     setting: &Setting<'_>,
     cursor: &mut Cursor<'_>,

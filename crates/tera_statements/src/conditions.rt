@@ -8,22 +8,22 @@ ghost use Rattle.tera_grammar.specs.statements.Reading.Loops.{nest};
 ghost use Rattle.tera_statements.specs.Adding.{GivesHere, AddsBy, AreBranches, here, seen_of};
 ghost use Rattle.tera_statements.specs.Around.{Represents};
 ghost use Rattle.tera_statements.specs.Conditions.{GivesBranch, branch_view};
-ghost use Rattle.tera_statements.specs.Settings.{bodies_under, limits_under};
+ghost use Rattle.tera_tags.specs.Settings.{bodies_under, limits_under};
 ghost use Rattle.tera_expect.specs.Taking.{GoesOn, Refuses, Took};
 ghost use Rattle.tera_ast.specs.View.{node_view};
 
 use crate::added::Added;
 use crate::around::{Around, Context, Opening};
 use crate::bodies::body;
-use crate::fronts::Closer;
-use crate::heads::expression_to_end;
 use crate::loops::else_body;
-use crate::names::Names;
-use crate::settings::Setting;
-use crate::tag_parts::{closed_tag, closes, take_closer};
 use std::alloc::Global;
 use tera_base::{Error, Span};
 use tera_lexer::Cursor;
+use tera_tags::fronts::Closer;
+use tera_tags::heads::expression_to_end;
+use tera_tags::names::Names;
+use tera_tags::settings::Setting;
+use tera_tags::tag_parts::{closed_tag, closes, take_closer};
 use tera_tree::{Expression, Node, build};
 
 /// A condition, and the body under it.
@@ -35,7 +35,7 @@ pub(crate) struct Branch {
 
 /// Reads the rest of an `if`, whose word was taken last.
 #[cycle(bodies)]
-#[tactic(auto, using(crate::proofs::OnTheWay::through_tags))]
+#[tactic(auto, using(tera_tags::proofs::OnTheWay::through_tags))]
 pub(crate) fn condition(
     setting: &Setting<'_>,
     cursor: &mut Cursor<'_>,
@@ -58,7 +58,7 @@ pub(crate) fn condition(
 
 // A condition, the end of its tag, and the body under it; the word before it is at the span.
 #[cycle(bodies)]
-#[tactic(auto, using(crate::proofs::OnTheWay::through_tags))]
+#[tactic(auto, using(tera_tags::proofs::OnTheWay::through_tags))]
 fn read_branch(
     setting: &Setting<'_>,
     cursor: &mut Cursor<'_>,

@@ -8,33 +8,34 @@ ghost use Rattle.tera_grammar.specs.statements.Reading.TagParts.{front};
 ghost use Rattle.tera_lexer.specs.code.Seen.{seen};
 ghost use Rattle.tera_statements.specs.Adding.{AddsBy, added_view, here, seen_of};
 ghost use Rattle.tera_statements.specs.Items.{AreEmptyTexts, EatsText, Enters, GivesNext, GivesShown, GivesText, GoesByItem, text_in};
-ghost use Rattle.tera_statements.specs.Kinds.{kind_of, opener_of};
-ghost use Rattle.tera_statements.specs.Knowing.{RefusesInKnowing, RefusesKnowing, known_at};
+ghost use Rattle.tera_tags.specs.Kinds.{kind_of, opener_of};
+ghost use Rattle.tera_statements.specs.Around.{known_at};
+ghost use Rattle.tera_tags.specs.Knowing.{RefusesInKnowing, RefusesKnowing};
 ghost use Rattle.tera_statements.specs.Simple.{is_free};
-ghost use Rattle.tera_statements.specs.Settings.{bodies_under, limits_under};
+ghost use Rattle.tera_tags.specs.Settings.{bodies_under, limits_under};
 ghost use Rattle.tera_expect.specs.Taking.{Refuses, RefusesIn, Took};
-ghost use Rattle.tera_statements.specs.declared.fronts.Front.TheVariants as fronts;
+ghost use Rattle.tera_tags.specs.declared.fronts.Front.TheVariants as fronts;
 
 use crate::added::Added;
 use crate::around::Around;
 use crate::blocks::{block, definition};
 use crate::captures::{call, section, set, shown_node};
 use crate::conditions::condition;
-use crate::fronts::{Front, Opener};
 use crate::loops::for_loop;
-use crate::names::Names;
-use crate::settings::Setting;
 use crate::simple::{Extension, Jump, extends, include, read_jump};
-use crate::tag_parts::{pass, tag_expression, unknown_tag, variable_end};
 use std::alloc::{AllocError, Global};
 use tera_base::Error;
 use tera_expect::take;
 use tera_lexer::{Cursor, Token};
+use tera_tags::fronts::{Front, Opener};
+use tera_tags::names::Names;
+use tera_tags::settings::Setting;
+use tera_tags::tag_parts::{pass, tag_expression, unknown_tag, variable_end};
 use tera_tree::Node;
 
 /// Reads the next item of a body, where one is there.
 #[cycle(bodies)]
-#[tactic(auto, using(tera_expect::proofs::TakingLemmas::took_all, crate::proofs::KnowingLemmas::items_knowing))]
+#[tactic(auto, using(tera_expect::proofs::TakingLemmas::took_all, tera_tags::proofs::KnowingLemmas::items_knowing))]
 pub(crate) fn item(
     setting: &Setting<'_>,
     cursor: &mut Cursor<'_>,
@@ -78,7 +79,7 @@ pub(crate) fn eat_text<'a>(cursor: &mut Cursor<'a>) -> Option<&'a str>
 }
 
 // A text, which comes next.
-#[tactic(auto, using(crate::proofs::RefusalLemmas::memory_inside))]
+#[tactic(auto, using(tera_tags::proofs::RefusalLemmas::memory_inside))]
 fn text(cursor: &mut Cursor<'_>) -> Result<Added, Error>
     requires { fronts.Holds ≡ kind_of (front cursor.old.left) }
     ensures gives { GivesText result cursor.new.left cursor.old.left }
@@ -113,7 +114,7 @@ fn content(alloc: Global, text: &str) -> Result<Added, AllocError>
 }
 
 /// A variable tag, which comes next.
-#[tactic(auto, using(tera_expect::proofs::TakingLemmas::took_all, crate::proofs::RefusalLemmas::took_inside, crate::proofs::RefusalLemmas::memory_inside))]
+#[tactic(auto, using(tera_expect::proofs::TakingLemmas::took_all, tera_tags::proofs::RefusalLemmas::took_inside, tera_tags::proofs::RefusalLemmas::memory_inside))]
 pub(crate) fn variable_tag(
     setting: &Setting<'_>,
     cursor: &mut Cursor<'_>,
@@ -147,7 +148,7 @@ pub(crate) fn enter(cursor: &mut Cursor<'_>, opener: Opener) -> Result<(), Error
 
 // Reads the rest of a tag that opens a statement, after its first token.
 #[cycle(bodies)]
-#[tactic(auto, using(crate::proofs::KnowingLemmas::knowing_err))]
+#[tactic(auto, using(tera_tags::proofs::KnowingLemmas::knowing_err))]
 fn tag(
     setting: &Setting<'_>,
     cursor: &mut Cursor<'_>,

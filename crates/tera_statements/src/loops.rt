@@ -5,24 +5,24 @@ ghost use Rattle.tera_grammar.specs.statements.Grammar.{Path, in_loop};
 ghost use Rattle.tera_grammar.specs.statements.Reading.{else_of, for_of};
 ghost use Rattle.tera_statements.specs.Adding.{GivesHere, AddsBy, IsElse, here, seen_of};
 ghost use Rattle.tera_statements.specs.Around.{Represents, context_of};
-ghost use Rattle.tera_statements.specs.Settings.{bodies_under, limits_under};
+ghost use Rattle.tera_tags.specs.Settings.{bodies_under, limits_under};
 ghost use Rattle.tera_expect.specs.Taking.{GoesOn, Refuses, Took};
 
 use crate::added::Added;
 use crate::around::{Around, Context, Opening};
 use crate::bodies::body;
-use crate::fronts::Closer;
-use crate::heads::loop_to_end;
-use crate::names::Names;
-use crate::settings::Setting;
-use crate::tag_parts::{closed_tag, closes, finish, take_closer};
 use tera_base::Error;
 use tera_lexer::Cursor;
+use tera_tags::fronts::Closer;
+use tera_tags::heads::loop_to_end;
+use tera_tags::names::Names;
+use tera_tags::settings::Setting;
+use tera_tags::tag_parts::{closed_tag, closes, finish, take_closer};
 use tera_tree::{Node, build};
 
 /// Reads the rest of a `for`, whose word was taken last.
 #[cycle(bodies)]
-#[tactic(auto, using(crate::proofs::OnTheWay::through_tags))]
+#[tactic(auto, using(tera_tags::proofs::OnTheWay::through_tags))]
 pub(crate) fn for_loop(
     setting: &Setting<'_>,
     cursor: &mut Cursor<'_>,

@@ -14,9 +14,9 @@ use crate::around::{Around, Breaks};
 use crate::faults::{
     again_extended, barred_block, captured_jump, jump_in_no_loop, late_extended, nested_extends,
 };
-use crate::tag_parts::{finish, quote};
 use tera_base::{Error, Spanned};
 use tera_lexer::Cursor;
+use tera_tags::tag_parts::{finish, quote};
 use tera_tree::{Node, build};
 
 /// Reads the rest of an `include`.

@@ -11,30 +11,30 @@ ghost use Rattle.tera_grammar.specs.statements.Reading.TagParts.{front};
 ghost use Rattle.tera_statements.specs.Adding.{added_view, here};
 ghost use Rattle.tera_tree.specs.Outputs.{output_view};
 ghost use Rattle.tera_statements.specs.Items.{AreEmptyTexts, GivesStep, GoesByItem};
-ghost use Rattle.tera_statements.specs.Kinds.{kind_of, opens_extends};
-ghost use Rattle.tera_statements.specs.Known.{located_of};
-ghost use Rattle.tera_statements.specs.Knowing.{RefusesInKnowing};
+ghost use Rattle.tera_tags.specs.Kinds.{kind_of, opens_extends};
+ghost use Rattle.tera_tags.specs.Known.{located_of};
+ghost use Rattle.tera_tags.specs.Knowing.{RefusesInKnowing};
 ghost use Rattle.tera_expr_parts.specs.Allowed.{AreValid, limits_of};
 ghost use Rattle.tera_expect.specs.Taking.{RefusesIn, Took};
-ghost use Rattle.tera_statements.specs.Settings.{bodies_under, limits_under};
+ghost use Rattle.tera_tags.specs.Settings.{bodies_under, limits_under};
 ghost use Rattle.tera_statements.specs.Templates.{Excludes, GivesPhase, GivesTemplate, GivesTextPhase, GivesTop, IsStep, ReadsTemplate, RefusesTemplate, ComesNext, StopsLate, top_depth, phase_if_any, phase_of, weight_of};
-ghost use Rattle.tera_statements.specs.declared.fronts.Front.TheVariants as fronts;
-ghost use Rattle.tera_statements.specs.declared.fronts.Opener.TheVariants as openers;
+ghost use Rattle.tera_tags.specs.declared.fronts.Front.TheVariants as fronts;
+ghost use Rattle.tera_tags.specs.declared.fronts.Opener.TheVariants as openers;
 ghost use Rattle.tera_ast.specs.View.{node_view};
 
 use crate::added::{Added, is_blank, push_text};
 use crate::around::Around;
 use crate::faults::{again_extended, ignored, late_extended};
-use crate::fronts::{Front, Opener};
 use crate::items::{eat_text, enter, item};
-use crate::names::Names;
-use crate::settings::Setting;
 use crate::simple::Extension;
-use crate::tag_parts::{quote, unknown_tag};
 use std::alloc::Global;
 use tera_base::{Error, Span};
 use tera_expr_parts::Limits;
 use tera_lexer::Cursor;
+use tera_tags::fronts::{Front, Opener};
+use tera_tags::names::Names;
+use tera_tags::settings::Setting;
+use tera_tags::tag_parts::{quote, unknown_tag};
 use tera_tree::{Node, ParserOutput};
 
 // The name of the template that this one extends, as far as it is known.
@@ -182,7 +182,7 @@ pub fn read_output(mut cursor: Cursor<'_>, limits: Limits) -> Result<(ParserOutp
 }
 
 // Reads a whole template.
-#[tactic(auto, using(crate::proofs::RefusalLemmas::goes_inside, crate::proofs::RefusalLemmas::memory_inside))]
+#[tactic(auto, using(tera_tags::proofs::RefusalLemmas::goes_inside, tera_tags::proofs::RefusalLemmas::memory_inside))]
 fn whole(setting: &Setting<'_>, cursor: &mut Cursor<'_>) -> Result<(ParserOutput, Names), Error>
     ensures gives { ReadsTemplate (limits_under setting.now) result cursor.old.left cursor.new.left }
     ensures refusal { IfErr result (RefusesIn cursor.old cursor.new) }
@@ -223,7 +223,7 @@ fn next_phase(
 }
 
 // Takes what a text adds, which was taken last, and returns the phase after it.
-#[tactic(auto, using(crate::proofs::RefusalLemmas::memory_inside))]
+#[tactic(auto, using(tera_tags::proofs::RefusalLemmas::memory_inside))]
 fn text_phase(
     cursor: &Cursor<'_>,
     output: &mut ParserOutput,
@@ -243,7 +243,7 @@ fn text_phase(
 }
 
 // Takes what the next item adds, where one is there, and returns the phase after it.
-#[tactic(auto, using(crate::proofs::KnowingLemmas::memory_inside_knowing))]
+#[tactic(auto, using(tera_tags::proofs::KnowingLemmas::memory_inside_knowing))]
 fn item_phase(
     setting: &Setting<'_>,
     cursor: &mut Cursor<'_>,
@@ -266,7 +266,7 @@ fn item_phase(
 }
 
 // Reads the next item of the top level, where one is there, and returns the phase after it.
-#[tactic(auto, using(crate::proofs::KnowingLemmas::memory_inside_knowing))]
+#[tactic(auto, using(tera_tags::proofs::KnowingLemmas::memory_inside_knowing))]
 fn next_item(
     setting: &Setting<'_>,
     cursor: &mut Cursor<'_>,
@@ -324,7 +324,7 @@ fn extends_next(cursor: &Cursor<'_>) -> bool
 }
 
 // That an `extends`, which comes next, is where none may. It is taken up to its string, at which that is reported.
-#[tactic(auto, using(crate::proofs::RefusalLemmas::took_inside))]
+#[tactic(auto, using(tera_tags::proofs::RefusalLemmas::took_inside))]
 fn late_extends(cursor: &mut Cursor<'_>, parent: Option<&str>) -> Error
     requires { fronts.Opens openers.Extends ≡ kind_of (front cursor.old.left) }
     ensures refusal { RefusesIn cursor.old cursor.new result }
@@ -340,7 +340,7 @@ fn late_extends(cursor: &mut Cursor<'_>, parent: Option<&str>) -> Error
 }
 
 // Takes an `extends`, which comes next, up to its string.
-#[tactic(auto, using(tera_expect::proofs::TakingLemmas::took_all, crate::proofs::RefusalLemmas::took_inside, crate::proofs::RefusalLemmas::memory_inside))]
+#[tactic(auto, using(tera_expect::proofs::TakingLemmas::took_all, tera_tags::proofs::RefusalLemmas::took_inside, tera_tags::proofs::RefusalLemmas::memory_inside))]
 fn take_extends(cursor: &mut Cursor<'_>) -> Result<(), Error>
     requires { fronts.Opens openers.Extends ≡ kind_of (front cursor.old.left) }
     ensures late { IfOk result (λ _. StopsLate cursor.old.left cursor.new.left) }

@@ -16,8 +16,8 @@ use Rattle.tera_grammar.specs.statements.Reading.Meeting.{group_all, nothing_gro
 use Rattle.tera_parser.specs.Notes.{NotesName}
 use Rattle.tera_parser.specs.Refusal.{Refuses}
 use Rattle.tera_mend.specs.Readings.{AreOf}
-use Rattle.tera_statements.specs.Known.{grouped_of}
-use Rattle.tera_statements.specs.declared.names.Names.{Names}
+use Rattle.tera_tags.specs.Known.{grouped_of}
+use Rattle.tera_tags.specs.declared.names.Names.{Names}
 use Rattle.tera_tree.specs.Outputs.{output_view}
 use Rattle.tera_tree.specs.declared.outputs.ParserOutput.{ParserOutput}
 use Rattle.tera_findings.specs.Faults.{IsSyntaxError, IsSyntaxErrorKind, is_memory, is_memory_kind}

@@ -15,8 +15,8 @@ use Rattle.tera_grammar.specs.statements.Places.{Places, texts}
 use Rattle.tera_grammar.specs.statements.Reading.Meeting.{Located, Seen, locate, locate_all, nothing_located}
 use Rattle.tera_grammar.specs.statements.Top.{DerivesNames}
 use Rattle.tera_grammar.specs.statements.Trees.{IsRight}
-use Rattle.tera_statements.specs.Known.{AreNames, located_of}
-use Rattle.tera_statements.specs.declared.names.Names.{Names}
+use Rattle.tera_tags.specs.Known.{AreNames, located_of}
+use Rattle.tera_tags.specs.declared.names.Names.{Names}
 use Rattle.tera_tree.specs.Tree.{Output}
 use Rattle.tera_findings.specs.Findings.{span_if_any}
 

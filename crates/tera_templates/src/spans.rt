@@ -1,7 +1,7 @@
 //! Where a template defines its components.
 
 ghost use Rattle.std.specs.Prelude.{◌≡◌, IfOk, map};
-ghost use Rattle.tera_statements.specs.Known.{located_of};
+ghost use Rattle.tera_tags.specs.Known.{located_of};
 ghost use Rattle.tera_tree.specs.View.{definition_view};
 ghost use Rattle.tera_findings.specs.Findings.{span_if_any};
 

@@ -9,7 +9,7 @@ ghost use Rattle.tera_grammar.specs.statements.Top.{Derives, DerivesNames};
 ghost use Rattle.tera_parser.specs.Notes.{NotesName};
 ghost use Rattle.tera_parser.specs.Refusal.{LosesSource, Refuses};
 ghost use Rattle.tera_grammar.specs.statements.Reading.Meeting.{group_all, nothing_grouped};
-ghost use Rattle.tera_statements.specs.Known.{AreNames, grouped_of};
+ghost use Rattle.tera_tags.specs.Known.{AreNames, grouped_of};
 ghost use Rattle.tera_tree.specs.Outputs.{output_view};
 ghost use Rattle.tera_tree.specs.Tree.{Output};
 ghost use Rattle.tera_tree.specs.View.{definition_view};

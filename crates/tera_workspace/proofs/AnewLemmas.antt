@@ -7,7 +7,7 @@ use Rattle.tera_grammar.specs.statements.Top.{Derives, DerivesNames}
 use Rattle.tera_lexer.specs.grammar.Marks.{default_marks}
 use Rattle.tera_parser.specs.Notes.{NotesName}
 use Rattle.tera_parser.specs.Refusal.{LosesSource, Refuses}
-use Rattle.tera_statements.specs.Known.{grouped_of}
+use Rattle.tera_tags.specs.Known.{grouped_of}
 use Rattle.tera_tree.specs.Outputs.{output_view}
 use Rattle.tera_tree.specs.Tree.{Output}
 use Rattle.tera_templates.specs.Templates.{HasHidden, tree_of}

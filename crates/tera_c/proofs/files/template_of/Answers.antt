@@ -7,7 +7,7 @@ use Rattle.tera_grammar.specs.statements.Places.{Places}
 use Rattle.tera_grammar.specs.statements.Reading.Meeting.{group_all, nothing_grouped}
 use Rattle.tera_grammar.specs.statements.Top.{DerivesNames}
 use Rattle.tera_lexer.specs.grammar.Marks.{default_marks}
-use Rattle.tera_statements.specs.Known.{grouped_of}
+use Rattle.tera_tags.specs.Known.{grouped_of}
 use Rattle.tera_tree.specs.Outputs.{output_view}
 
 pub returns-clause-ok : goal.returns-clause-ok

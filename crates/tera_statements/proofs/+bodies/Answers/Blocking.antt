@@ -7,14 +7,14 @@ use Rattle.tera_grammar.specs.statements.Grammar.{Block, Define}
 use Rattle.tera_grammar.specs.statements.Output.{AddsNode, AddsDefinition}
 use Rattle.tera_grammar.specs.statements.Reading.TagParts.{tag}
 use Rattle.tera_statements.specs.Adding.{here, seen_of}
-use Rattle.tera_statements.specs.Known.{located_of}
-use Rattle.tera_statements.specs.Knowing.{known_at}
+use Rattle.tera_tags.specs.Known.{located_of}
+use Rattle.tera_statements.specs.Around.{known_at}
 use Rattle.tera_statements.proofs.BlocksLemmas.{barred, block_unnamed, block_unfinished, block_empty, block_unclosed, block_given, block_kept, definition_empty, definition_given, definition_unclosed, nested, unopened}
 use Rattle.tera_expect.proofs.Steps.{failed_as, fails_by}
 use Rattle.tera_expect.proofs.TakingLemmas.{refused_after, took_further}
-use Rattle.tera_statements.proofs.ComponentsLemmas.{ending_keeps, same_definition}
-use Rattle.tera_statements.proofs.KnowingLemmas.{knowing, knowing_top}
-use Rattle.tera_statements.proofs.KnownLemmas.{same_place}
+use Rattle.tera_tags.proofs.ComponentsLemmas.{ending_keeps, same_definition}
+use Rattle.tera_tags.proofs.KnowingLemmas.{knowing, knowing_top}
+use Rattle.tera_tags.proofs.KnownLemmas.{same_place}
 use Rattle.tera_statements.proofs.+bodies.Goals as goal
 
 pub blocks::block-returns-in_err-check_block-clause-gives : goal.blocks::block-returns-in_err-check_block-clause-gives

@@ -13,10 +13,10 @@ use Rattle.tera_statements.specs.Adding.{here, seen_of}
 use Rattle.tera_statements.specs.Around.{context_of}
 use Rattle.tera_expr_parts.specs.Allowed.{limits_of}
 use Rattle.tera_expect.specs.Taking.{GoesOn}
-use Rattle.tera_statements.specs.Known.{located_of}
+use Rattle.tera_tags.specs.Known.{located_of}
 use Rattle.tera_statements.proofs.BodiesLemmas.{no_depth}
 use Rattle.tera_statements.proofs.ItemsLemmas.{step_holds}
-use Rattle.tera_statements.proofs.KnowingLemmas.{inside_elsewhere}
+use Rattle.tera_tags.proofs.KnowingLemmas.{inside_elsewhere}
 use Rattle.tera_expect.proofs.TakingLemmas.{took_size, goes_further, stays, took_goes}
 use Rattle.tera_expect.proofs.Steps.{failed_as}
 use Rattle.tera_statements.proofs.+bodies.Goals as goal

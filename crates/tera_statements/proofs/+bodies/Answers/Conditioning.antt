@@ -15,8 +15,8 @@ use Rattle.tera_grammar.specs.statements.Reading.Loops.{nest}
 use Rattle.tera_grammar.proofs.statements.Loops.{branching_starts, branching_on, branching_ends, branching_refused, branching_end_refused}
 use Rattle.tera_statements.specs.Conditions.{branch_view}
 use Rattle.tera_expect.proofs.TakingLemmas.{stays, goes_further, took_goes, took_all, took_size}
-use Rattle.tera_statements.proofs.Tags.{closed_memory}
-use Rattle.tera_statements.specs.declared.fronts.Closer.TheVariants as closers
+use Rattle.tera_tags.proofs.Tags.{closed_memory}
+use Rattle.tera_tags.specs.declared.fronts.Closer.TheVariants as closers
 use Rattle.tera_statements.proofs.+bodies.Goals as goal
 
 pub conditions::condition-returns-in_err-first-clause-gives : goal.conditions::condition-returns-in_err-first-clause-gives

@@ -4,13 +4,14 @@ use Rattle.std.proofs.lemmas.Result.{err_from_is_err_and}
 use Rattle.tera_grammar.specs.statements.Reading.{body}
 use Rattle.tera_grammar.specs.statements.Reading.TagParts.{front}
 use Rattle.tera_statements.specs.Adding.{seen_of}
-use Rattle.tera_statements.specs.Kinds.{opener_of}
+use Rattle.tera_tags.specs.Kinds.{opener_of}
 use Rattle.tera_expr_parts.specs.Allowed.{limits_of}
 use Rattle.tera_statements.proofs.ItemsLemmas.{opens_item, opens_nothing, step_closed, step_ended, step_wrong}
-use Rattle.tera_statements.specs.Knowing.{known_at}
-use Rattle.tera_statements.proofs.KnowingLemmas.{inside_knowing, knowing_inside}
-use Rattle.tera_statements.proofs.RefusalLemmas.{quiet, wrong_left}
-use Rattle.tera_statements.proofs.Tags.{stops_there}
+use Rattle.tera_statements.specs.Around.{known_at}
+use Rattle.tera_tags.proofs.KnowingLemmas.{inside_knowing, knowing_inside}
+use Rattle.tera_statements.proofs.EmptyLemmas.{quiet}
+use Rattle.tera_tags.proofs.RefusalLemmas.{wrong_left}
+use Rattle.tera_tags.proofs.Tags.{stops_there}
 use Rattle.tera_expect.proofs.Steps.{failed_as}
 use Rattle.tera_statements.proofs.+bodies.Goals as goal
 

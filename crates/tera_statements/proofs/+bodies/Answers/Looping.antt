@@ -12,9 +12,9 @@ use Rattle.tera_expect.proofs.Steps.{failed_as}
 use Rattle.tera_statements.specs.Around.{context_of}
 use Rattle.tera_expr_parts.specs.Allowed.{limits_of}
 use Rattle.tera_grammar.specs.statements.Reading.{body}
-use Rattle.tera_statements.specs.declared.fronts.Closer.TheVariants as closers
+use Rattle.tera_tags.specs.declared.fronts.Closer.TheVariants as closers
 use Rattle.tera_expect.proofs.TakingLemmas.{goes_all_ok, took_all}
-use Rattle.tera_statements.proofs.Tags.{closed_memory, unclosed}
+use Rattle.tera_tags.proofs.Tags.{closed_memory, unclosed}
 use Rattle.tera_statements.proofs.+bodies.Goals as goal
 
 pub loops::for_loop-returns-in_err-head-clause-gives : goal.loops::for_loop-returns-in_err-head-clause-gives

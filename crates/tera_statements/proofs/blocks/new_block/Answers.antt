@@ -1,6 +1,6 @@
 use Rattle.std.proofs.Common.{inr, refl, sym, ◌∙◌, inl}
 use Rattle.tera_expect.specs.Taking.{name_at}
-use Rattle.tera_statements.proofs.KnownLemmas.{known_as}
+use Rattle.tera_tags.proofs.KnownLemmas.{known_as}
 use Rattle.tera_statements.proofs.blocks.new_block.Goals as goal
 
 pub returns-then-is_some-clause-gives : goal.returns-then-is_some-clause-gives

@@ -6,7 +6,7 @@ use Rattle.tera_grammar.specs.statements.TagParts.{AtEndCall}
 use Rattle.tera_grammar.specs.statements.Reading.TagParts.{tag}
 use Rattle.tera_statements.proofs.CapturesLemmas.{call_not_closed, end_unnamed, end_renamed, end_without, end_unfinished, end_given}
 use Rattle.tera_expect.proofs.Steps.{failed_as, fails_by}
-use Rattle.tera_statements.proofs.Tags.{unclosed_at_end}
+use Rattle.tera_tags.proofs.Tags.{unclosed_at_end}
 use Rattle.tera_statements.proofs.captures.call_end.Goals as goal
 
 pub returns-then-at_end-clause-gives : goal.returns-then-at_end-clause-gives

@@ -1,4 +1,4 @@
-use Rattle.tera_statements.proofs.RefusalLemmas.{took_inside}
+use Rattle.tera_tags.proofs.RefusalLemmas.{took_inside}
 use Rattle.tera_statements.proofs.TemplatesLemmas.{covered}
 use Rattle.tera_statements.proofs.faults.ignored.Goals as goal
 

@@ -1,6 +1,6 @@
 use Rattle.std.proofs.Common.{[], ◌∙◌}
 use Rattle.tera_expect.proofs.TakingLemmas.{other_noted}
-use Rattle.tera_statements.proofs.CameLemmas.{another_label}
+use Rattle.tera_tags.proofs.CameLemmas.{another_label}
 use Rattle.tera_statements.proofs.faults.inside_of.Goals as goal
 
 pub returns-in-Ok-clause-refusal : goal.returns-in-Ok-clause-refusal

@@ -6,9 +6,9 @@ use Rattle.tera_expr_parts.specs.Allowed.{limits_of}
 use Rattle.tera_statements.specs.Adding.{here, seen_of}
 use Rattle.tera_tree.specs.Outputs.{output_view}
 use Rattle.tera_statements.specs.Templates.{phase_of, top_depth}
-use Rattle.tera_statements.specs.Known.{located_of}
-use Rattle.tera_statements.proofs.KnowingLemmas.{memory_inside_knowing}
-use Rattle.tera_statements.proofs.RefusalLemmas.{empty_adds}
+use Rattle.tera_tags.specs.Known.{located_of}
+use Rattle.tera_tags.proofs.KnowingLemmas.{memory_inside_knowing}
+use Rattle.tera_statements.proofs.EmptyLemmas.{empty_adds}
 use Rattle.tera_statements.proofs.TemplatesLemmas.{empty_steps}
 use Rattle.tera_statements.proofs.templates.item_phase.Goals as goal
 

@@ -5,9 +5,9 @@ use Rattle.tera_grammar.specs.statements.Reading.Loops.{turn, weight}
 use Rattle.tera_statements.specs.Adding.{here, seen_of}
 use Rattle.tera_expr_parts.specs.Allowed.{limits_of}
 use Rattle.tera_statements.specs.Templates.{top_depth, phase_if_any, phase_of}
-use Rattle.tera_statements.specs.Known.{located_of}
-use Rattle.tera_statements.proofs.KnowingLemmas.{inside_knowing}
-use Rattle.tera_statements.proofs.RefusalLemmas.{empty_adds, silent_turns}
+use Rattle.tera_tags.specs.Known.{located_of}
+use Rattle.tera_tags.proofs.KnowingLemmas.{inside_knowing}
+use Rattle.tera_statements.proofs.EmptyLemmas.{empty_adds, silent_turns}
 use Rattle.tera_statements.proofs.TemplatesLemmas.{fails_excluded, step_fails, turn_excluded}
 use Rattle.tera_statements.proofs.templates.next_item.Goals as goal
 

@@ -1,8 +1,8 @@
 use Rattle.tera_expr_parts.specs.Allowed.{limits_of}
 use Rattle.tera_statements.specs.Adding.{seen_of}
 use Rattle.tera_tree.specs.Outputs.{output_view}
-use Rattle.tera_statements.specs.Known.{located_of}
-use Rattle.tera_statements.proofs.KnowingLemmas.{inside_knowing_err}
+use Rattle.tera_tags.specs.Known.{located_of}
+use Rattle.tera_tags.proofs.KnowingLemmas.{inside_knowing_err}
 use Rattle.tera_statements.proofs.TemplatesLemmas.{text_empty, text_gives, text_goes}
 use Rattle.tera_statements.proofs.templates.next_phase.Goals as goal
 

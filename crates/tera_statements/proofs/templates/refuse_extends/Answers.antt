@@ -2,9 +2,9 @@ use Rattle.std.proofs.Common.{◌∙◌, ⊎_elim, inl, inr, sym}
 use Rattle.tera_grammar.specs.statements.Reading.{at}
 use Rattle.tera_grammar.specs.statements.Reading.TagParts.{front}
 use Rattle.tera_expr_parts.specs.Allowed.{limits_of}
-use Rattle.tera_statements.specs.Kinds.{kind_of}
+use Rattle.tera_tags.specs.Kinds.{kind_of}
 use Rattle.tera_statements.specs.Templates.{phase_of}
-use Rattle.tera_statements.proofs.RefusalLemmas.{quiet}
+use Rattle.tera_statements.proofs.EmptyLemmas.{quiet}
 use Rattle.tera_statements.proofs.TemplatesLemmas.{extends_front, extends_kind, first_steps, late_excluded, no_phase, other_steps}
 use Rattle.tera_statements.proofs.templates.refuse_extends.Goals as goal
 

@@ -3,7 +3,8 @@ use Rattle.std.proofs.lemmas.Result.{err_from_is_err_and}
 use Rattle.tera_grammar.specs.statements.Output.{text_adds}
 use Rattle.tera_grammar.specs.statements.Reading.Loops.{turn, weight}
 use Rattle.tera_statements.specs.Templates.{phase_if_any, phase_of}
-use Rattle.tera_statements.proofs.RefusalLemmas.{memory_inside, silent_turns}
+use Rattle.tera_statements.proofs.EmptyLemmas.{silent_turns}
+use Rattle.tera_tags.proofs.RefusalLemmas.{memory_inside}
 use Rattle.tera_statements.proofs.templates.text_phase.Goals as goal
 
 pub returns-in_default-clause-gives : goal.returns-in_default-clause-gives

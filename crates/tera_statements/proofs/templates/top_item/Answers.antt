@@ -1,7 +1,7 @@
 use Rattle.std.proofs.Common.{IfErr, [], cond, subst}
 use Rattle.tera_grammar.specs.statements.Reading.Meeting.{nothing_located}
-use Rattle.tera_statements.specs.Known.{located_of}
-use Rattle.tera_statements.specs.Knowing.{RefusesInKnowing}
+use Rattle.tera_tags.specs.Known.{located_of}
+use Rattle.tera_tags.specs.Knowing.{RefusesInKnowing}
 use Rattle.tera_statements.proofs.templates.top_item.Goals as goal
 
 pub returns-clause-gives : goal.returns-clause-gives

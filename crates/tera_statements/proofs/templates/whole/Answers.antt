@@ -10,14 +10,15 @@ use Rattle.tera_expr_parts.specs.Allowed.{limits_of}
 use Rattle.tera_expect.specs.Taking.{GoesOn}
 use Rattle.tera_statements.specs.Templates.{top_depth, phase_of}
 use Rattle.tera_tree.specs.Outputs.{output_view}
-use Rattle.tera_statements.specs.Known.{located_of}
+use Rattle.tera_tags.specs.Known.{located_of}
 use Rattle.tera_expect.proofs.NotesLemmas.{goes_left, took_left}
 use Rattle.tera_expect.proofs.TakingLemmas.{took_size, goes_further, stays, took_goes}
-use Rattle.tera_statements.proofs.CameLemmas.{came_on, none_came}
-use Rattle.tera_statements.proofs.KnowingLemmas.{known_inside}
-use Rattle.tera_statements.proofs.RefusalLemmas.{empty_ends, goes_empty, goes_inside, not_both}
+use Rattle.tera_tags.proofs.CameLemmas.{came_on, none_came}
+use Rattle.tera_tags.proofs.KnowingLemmas.{known_inside}
+use Rattle.tera_statements.proofs.EmptyLemmas.{empty_ends, goes_empty}
+use Rattle.tera_tags.proofs.RefusalLemmas.{goes_inside, not_both}
 use Rattle.tera_statements.proofs.TemplatesLemmas.{empty_steps, excluded_fails, opens}
-use Rattle.tera_statements.proofs.Tags.{stops_there}
+use Rattle.tera_tags.proofs.Tags.{stops_there}
 use Rattle.tera_statements.proofs.templates.whole.Goals as goal
 
 pub items-init : goal.items-init

@@ -2,7 +2,7 @@ use Rattle.tera_lexer.specs.code.Cursors.{size}
 use Rattle.tera_statements.specs.Adding.{here}
 use Rattle.tera_expr_parts.specs.Allowed.{limits_of}
 use Rattle.tera_expect.specs.Taking.{GoesOn}
-use Rattle.tera_statements.specs.Known.{CameBefore, located_of}
+use Rattle.tera_tags.specs.Known.{CameBefore, located_of}
 use Rattle.tera_statements.specs.Templates.{TopOf, phase_of}
 use Rattle.tera_tree.specs.Outputs.{output_view}
 use Rattle.tera_statements.proofs.templates.whole.Given as goal

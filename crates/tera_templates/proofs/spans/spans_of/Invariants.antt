@@ -1,5 +1,5 @@
 use Rattle.std.proofs.Common.{◌≡◌, ◌++◌, drop, map}
-use Rattle.tera_statements.specs.Known.{located_of}
+use Rattle.tera_tags.specs.Known.{located_of}
 use Rattle.tera_tree.specs.View.{definition_view}
 use Rattle.tera_findings.specs.Findings.{span_if_any}
 use Rattle.tera_templates.proofs.spans.spans_of.Given as goal

@@ -7,7 +7,7 @@ use Rattle.tera_grammar.specs.statements.Top.{DerivesNames}
 use Rattle.tera_parser.specs.Job.{Job}
 use Rattle.tera_parser.specs.Notes.{NotesName}
 use Rattle.tera_parser.specs.Refusal.{LosesSource, Refuses}
-use Rattle.tera_statements.specs.Known.{AreNames}
+use Rattle.tera_tags.specs.Known.{AreNames}
 use Rattle.tera_tree.specs.Outputs.{output_view}
 use Rattle.tera_tree.specs.Tree.{Output}
 use Rattle.tera_templates.proofs.templates.parsed.Goals as goal

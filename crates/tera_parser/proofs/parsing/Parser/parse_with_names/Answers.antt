@@ -9,7 +9,7 @@ use Rattle.tera_grammar.specs.statements.Top.{DerivesNames, IsTemplate}
 use Rattle.tera_grammar.proofs.statements.Wholes.{derived, names_unique}
 use Rattle.tera_lexer.specs.grammar.Marks.{IsValid}
 use Rattle.tera_lexer.specs.grammar.Tokens.{AreTokensOf}
-use Rattle.tera_statements.specs.Known.{AreNames}
+use Rattle.tera_tags.specs.Known.{AreNames}
 use Rattle.tera_tree.specs.Outputs.{output_view}
 use Rattle.tera_statements.specs.Templates.{RefusesTemplate}
 use Rattle.tera_parser.specs.Job.{Job}

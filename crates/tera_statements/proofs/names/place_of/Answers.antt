@@ -1,4 +1,0 @@
-use Rattle.tera_statements.proofs.names.place_of.Goals as goal
-
-pub returns : goal.returns
-returns c = c.get.ensures.value

@@ -1,0 +1,16 @@
+pub mod AloneLemmas
+pub mod CameLemmas
+pub mod ComponentsLemmas
+pub mod FiltersLemmas
+pub mod FrontsLemmas
+pub mod HeadsLemmas
+pub mod KnowingLemmas
+pub mod KnownLemmas
+pub mod LoopHeads
+pub mod OnTheWay
+pub mod PairsLemmas
+pub mod ParametersLemmas
+pub mod RefusalLemmas
+pub mod Tags
+pub mod TypesLemmas
+pub mod WrongLemmas
