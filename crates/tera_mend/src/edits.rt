@@ -100,27 +100,20 @@ fn write(bytes: &mut [u8], at: usize, new: &[u8]) -> bool
 
 /// Blanks over all of a text. Line feeds and bytes that are not ASCII stay.
 pub(crate) fn blanked(alloc: Global, text: &str) -> Result<Vec<Edit>, AllocError> {
-    let mut edits = Vec::new(alloc);
-    edits.push(Edit {
-        at: 0,
-        bytes: blanks(alloc, text.as_bytes())?,
-    })?;
-    Ok(edits)
-}
-
-/// As many bytes: a blank for each, except line feeds and bytes that are not ASCII.
-pub(crate) fn blanks(alloc: Global, old: &[u8]) -> Result<Vec<u8>, AllocError> {
     let mut bytes = Vec::new(alloc);
-    for byte in old {
-        bytes.push(blank(*byte))?;
-    }
-    Ok(bytes)
+    push_blanks(&mut bytes, text.as_bytes())?;
+    Ok(vec![in alloc; Edit { at: 0, bytes }]?)
 }
 
-fn blank(byte: u8) -> u8 {
-    if byte >= 0x80 || byte == b'\n' {
-        byte
-    } else {
-        b' '
+/// Adds as many bytes: a blank for each, except line feeds and bytes that are not ASCII.
+pub(crate) fn push_blanks(to: &mut Vec<u8>, old: &[u8]) -> Result<(), AllocError> {
+    for byte in old {
+        to.push(if is_fixed(*byte) { *byte } else { b' ' })?;
     }
+    Ok(())
+}
+
+/// Whether the byte stays where blanks are written.
+pub(crate) fn is_fixed(byte: u8) -> bool {
+    byte == b'\n' || !byte.is_ascii()
 }

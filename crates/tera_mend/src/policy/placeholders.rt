@@ -1,25 +1,13 @@
 //! What is written in the place of a tag.
 
-use crate::edits::Edit;
+use crate::edits::{Edit, is_fixed, push_blanks};
 use crate::policy::tags::Tag;
 use crate::policy::words::{Body, Role, end_word, split_name};
 use std::alloc::{AllocError, Global};
 use std::str;
 
-fn is_fixed(byte: u8) -> bool {
-    byte == b'\n' || !byte.is_ascii()
-}
-
 fn has_fixed(bytes: &[u8]) -> bool {
     bytes.iter().any(|byte| is_fixed(*byte))
-}
-
-// Each byte of ASCII but a line feed is a blank.
-fn push_blanks(to: &mut Vec<u8>, old: &[u8]) -> Result<(), AllocError> {
-    for byte in old {
-        to.push(if is_fixed(*byte) { *byte } else { b' ' })?;
-    }
-    Ok(())
 }
 
 // White space in as many characters of the same lengths; those of four bytes stay.
