@@ -246,6 +246,14 @@ impl Settings {
         }
     }
 
+    /// The file of settings that counts for the folder, even if it is wrong.
+    pub fn file_of(&self, folder: &str) -> Option<&str>
+        ensures { option_map (λ f. f.now) result ≡ file_in self.now folder.now }
+    {
+        let file = self.files.get(folder)?;
+        Some(file.as_str())
+    }
+
     /// The file of settings of the folder, if it counts for no other folder.
     pub fn own_file(&self, folder: &str) -> Option<&str>
         ensures { IfSome result (λ f. file_in self.now folder.now ≡ Some f.now) }

@@ -513,8 +513,8 @@ fn settings_of<F: Files + Input + AllocGlobal>(
     }
 }
 
-// Gives what is under a path now: a folder, a file or nothing. If the path may be a file of settings, the open folders
-// are asked for again.
+// Gives what is under a path now: a folder, a file or nothing. If settings may be others by that, the open folders are
+// asked for again.
 fn give_changed<F: Files + Input + AllocGlobal + Clone + Drop>(
     files: &F,
     server: &mut Server,
@@ -523,13 +523,28 @@ fn give_changed<F: Files + Input + AllocGlobal + Clone + Drop>(
     ensures given { OnOk result (AreGiven (NeedsChanged path.now) server.old server.new) }
     ensures in_part { OnErr result (AreGivenInPart (NeedsChanged path.now) server.old server.new) }
 {
-    if Path::new(path).file_name() == Some(NAME) {
+    if may_change_settings(files, server, path) {
         return server.ask_for_folders(files.alloc());
     }
     match kind_of(files, path) {
         Kind::Folder => give_folder(files, server, path),
         Kind::File => give_template(files, server, path),
         Kind::Nothing => give_gone(files, server, path),
+    }
+}
+
+// Whether the path may be a file of settings, or has come since settings named a path at which nothing was.
+fn may_change_settings(files: &impl Files, server: &Server, path: &str) -> bool {
+    if Path::new(path).file_name() == Some(NAME) {
+        return true;
+    }
+    server.has_wrong_settings() && !server.is_known(path) && is_there(files, path)
+}
+
+fn is_there(files: &impl Files, path: &str) -> bool {
+    match kind_of(files, path) {
+        Kind::Nothing => false,
+        Kind::File | Kind::Folder => true,
     }
 }
 

@@ -1,6 +1,7 @@
 -- What settings of a folder change.
-use Rattle.std.specs.Prelude.{◌≡◌, ◌⊎◌, ◌++◌, ◌&&◌, ◌||◌, ◌==◌, ℕ, List, [], Bool, false, cond, filter, length, map, not, option_map, string_bytes, Option, None, Some, IfSome}
-use Rattle.std.specs.List.{flat_map}
+use Rattle.std.specs.Prelude.{◌≡◌, ◌⊎◌, ◌++◌, ◌&&◌, ◌||◌, ◌==◌, ℕ, List, [], Bool, false, cond, filter, length, map, not, is_some, option_map, string_bytes, Option, None, Some, IfSome}
+use Rattle.std.specs.List.{flat_map, list_any}
+use Rattle.std.specs.Option.{option_map_or}
 use Rattle.std.specs.Str.{bytes_eq}
 use Rattle.tera_workspace.specs.Definitions.{texts_read}
 use Rattle.tera_workspace.specs.SiteValues.{KeptSiteVal, no_site}
@@ -31,6 +32,13 @@ abbrev pub why_found : FoundSettings → Option ReasonVal
 why_found found_as.Nothing = None
 why_found (found_as.Set file settings) = None
 why_found (found_as.Wrong file why) = Some (reason_view why)
+
+-- what is wrong in the file of settings of a folder is known, and of an open folder
+abbrev pub is_wrong_in : Server → List ℕ → Bool
+is_wrong_in s folder = option_map_or (λ file. is_some (why_of s.unread file)) (file_in s.settings folder) false
+
+abbrev pub has_wrong_settings : Server → Bool
+has_wrong_settings s = list_any (is_wrong_in s) (map string_bytes s.folders.items)
 
 -- the settings after that, by those before: if the new ones are wrong, those stay
 abbrev pub settings_by : FoundSettings → Option SettingsVal → Option SettingsVal

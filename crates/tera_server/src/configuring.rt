@@ -3,7 +3,7 @@
 ghost use Rattle.std.specs.Prelude.{◌≡◌, ◌++◌, false, true, map, string_bytes, IfOk, OnOk, OnErr};
 ghost use Rattle.std.specs.List.{filter, flat_map};
 ghost use Rattle.tera_workspace.specs.Definitions.{texts_read};
-ghost use Rattle.tera_server.specs.Configuring.{AreFoundSet, ArePublishedAgain, IsConfiguredBy, IsUnconfigured, finds_more_by, is_due_inside, settings_by, site_below, site_by};
+ghost use Rattle.tera_server.specs.Configuring.{AreFoundSet, ArePublishedAgain, IsConfiguredBy, IsUnconfigured, finds_more_by, has_wrong_settings, is_due_inside, is_wrong_in, settings_by, site_below, site_by};
 ghost use Rattle.tera_server.specs.Sending.{unpublished_of};
 ghost use Rattle.tera_editor.specs.Settings.{is_in_library, reported_in, settings_for, settings_in, settings_view};
 ghost use Rattle.tera_editor.specs.Sites.{AreGiven, IsSiteAt, site_in};
@@ -66,6 +66,27 @@ impl Server {
         ensures { result ≡ is_in_library self.now.settings path.now }
     {
         self.settings.is_in_library(path)
+    }
+
+    /// Whether the file of settings of an open folder is wrong, or cannot be read.
+    pub fn has_wrong_settings(&self) -> bool
+        ensures { result ≡ has_wrong_settings self.now }
+    {
+        for folder in &self.folders {
+            if self.is_wrong_in(folder.as_str()) {
+                return true;
+            }
+        }
+        false
+    }
+
+    fn is_wrong_in(&self, folder: &str) -> bool
+        ensures { result ≡ is_wrong_in self.now folder.now }
+    {
+        match self.settings.file_of(folder) {
+            Some(file) => self.unread.of(file).is_some(),
+            None => false,
+        }
     }
 
     /// Asks for the open folders again, as their settings may have changed.

@@ -9,10 +9,10 @@ returns-in-Folder-clause-given g c = on_ok c.give_folder.result (λ h. inr (inr 
 pub returns-in-Folder-clause-in_part : goal.returns-in-Folder-clause-in_part
 returns-in-Folder-clause-in_part g c = on_err c.give_folder.result (λ h. inr (inl h)) c.give_folder.ensures.in_part
 
-pub returns-then-eq-clause-given : goal.returns-then-eq-clause-given
-returns-then-eq-clause-given g c =
+pub returns-then-may_change_settings-clause-given : goal.returns-then-may_change_settings-clause-given
+returns-then-may_change_settings-clause-given g c =
     on_ok c.ask_for_folders.result (λ asked. inr (inr (inr (inr (record { same = c.ask_for_folders.ensures.same; asked = asked }))))) c.ask_for_folders.ensures.asked
 
-pub returns-then-eq-clause-in_part : goal.returns-then-eq-clause-in_part
-returns-then-eq-clause-in_part g c =
+pub returns-then-may_change_settings-clause-in_part : goal.returns-then-may_change_settings-clause-in_part
+returns-then-may_change_settings-clause-in_part g c =
     on_any_err c.ask_for_folders.result (inr (inr (record { same = c.ask_for_folders.ensures.same; grows = c.ask_for_folders.ensures.grows })))
