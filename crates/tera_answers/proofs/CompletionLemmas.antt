@@ -9,11 +9,12 @@ use Rattle.tera_workspace.specs.declared.workspace.Workspace.{Workspace}
 use Rattle.text_edits.specs.declared.positions.Encoding.{Encoding}
 use Rattle.tera_answers.specs.Completions.{completion_json, completion_of}
 use Rattle.tera_editor.specs.Settings.{RegisteredVal}
+use Rattle.tera_editor.specs.Templates.{RootsVal}
 
-pub reported : (e : Encoding) (w : Workspace) (folders : List (List ℕ)) (r : RegisteredVal) (text : List ℕ) (parts : List Part) (byte at last : ℕ) (given : Option Completion)
+pub reported : (e : Encoding) (w : Workspace) (roots : RootsVal) (r : RegisteredVal) (text : List ℕ) (parts : List Part) (byte at last : ℕ) (given : Option Completion)
     → given ≡ option_map (completion_at byte) (slot_of last byte parts) → last ≡ length text → byte ≡ at
-    → completion_json e w folders r text (names_of parts) (bound_of parts) byte given ≡ completion_of e w folders r text parts at
-reported e w folders r text parts byte at last given is long same =
-    ap (λ g. completion_json e w folders r text (names_of parts) (bound_of parts) byte g) is
-    ∙ ap (λ n. completion_json e w folders r text (names_of parts) (bound_of parts) byte (option_map (completion_at byte) (slot_of n byte parts))) long
-    ∙ ap (λ b. completion_of e w folders r text parts b) same
+    → completion_json e w roots r text (names_of parts) (bound_of parts) byte given ≡ completion_of e w roots r text parts at
+reported e w roots r text parts byte at last given is long same =
+    ap (λ g. completion_json e w roots r text (names_of parts) (bound_of parts) byte g) is
+    ∙ ap (λ n. completion_json e w roots r text (names_of parts) (bound_of parts) byte (option_map (completion_at byte) (slot_of n byte parts))) long
+    ∙ ap (λ b. completion_of e w roots r text parts b) same

@@ -26,7 +26,7 @@ use Rattle.text_edits.specs.declared.positions.Encoding.{Encoding}
 use Rattle.text_edits.specs.declared.positions.Position.{Position}
 use Rattle.tera_answers.specs.Positions.{position_at}
 use Rattle.tera_editor.specs.Settings.{RegisteredVal}
-use Rattle.tera_editor.specs.Templates.{template_name}
+use Rattle.tera_editor.specs.Templates.{RootsVal, template_name}
 
 -- the names in a text that stand for a definition there
 abbrev pub is_defined : NameKind → Bool
@@ -40,16 +40,16 @@ defined_names named = map (λ n. n.text) (filter (λ n. is_defined n.kind) named
 abbrev pub loop_names : List (List ℕ)
 loop_names = codes "loop.first" ∷ codes "loop.index" ∷ codes "loop.index0" ∷ codes "loop.last" ∷ codes "loop.length" ∷ []
 
--- the names of a kind that may be typed, by the documents, the folders that are open and the names that the program
+-- the names of a kind that may be typed, by the documents, by what templates have their names, by the names that the program
 -- registers, and by these names and variables of the text
-abbrev pub offered : Workspace → List (List ℕ) → RegisteredVal → List Named → List (List ℕ) → CompletionKind → List (List ℕ)
-offered w folders r named bound Statement = statement_words
-offered w folders r named bound Component = components_of w ++ defined_names named
-offered w folders r named bound Template = filter_map (template_name folders) (files_of w)
-offered w folders r named bound Filter = r.filters
-offered w folders r named bound Test = r.tests
-offered w folders r named bound Operand = (loop_names ++ bound) ++ r.functions
-offered w folders r named bound (Argument call) = option_map_or (λ n. parameters_of_name w n.text) (find (holds call) named) []
+abbrev pub offered : Workspace → RootsVal → RegisteredVal → List Named → List (List ℕ) → CompletionKind → List (List ℕ)
+offered w roots r named bound Statement = statement_words
+offered w roots r named bound Component = components_of w ++ defined_names named
+offered w roots r named bound Template = filter_map (template_name roots) (files_of w)
+offered w roots r named bound Filter = r.filters
+offered w roots r named bound Test = r.tests
+offered w roots r named bound Operand = (loop_names ++ bound) ++ r.functions
+offered w roots r named bound (Argument call) = option_map_or (λ n. parameters_of_name w n.text) (find (holds call) named) []
 
 -- the numbers that the protocol has for a keyword, a class, a file, a function, a variable and a field
 abbrev pub kind_number : CompletionKind → ℕ
@@ -76,16 +76,16 @@ abbrev pub items_json : Position → Position → ℕ → List (List ℕ) → Js
 items_json start end kind names = array (items_of (map (item_json start end kind) (once_each names)))
 
 -- at a byte of a text with these parts: the typed part of a name there is replaced; `null` if nothing may be typed
-abbrev pub completion_json : Encoding → Workspace → List (List ℕ) → RegisteredVal → List ℕ → List Named → List (List ℕ) → ℕ → Option Completion → Json
-completion_json e w folders r text named bound byte None = null
-completion_json e w folders r text named bound byte (Some c) =
-    items_json (position_at e text c.start) (position_at e text byte) (kind_number c.kind) (offered w folders r named bound c.kind)
+abbrev pub completion_json : Encoding → Workspace → RootsVal → RegisteredVal → List ℕ → List Named → List (List ℕ) → ℕ → Option Completion → Json
+completion_json e w roots r text named bound byte None = null
+completion_json e w roots r text named bound byte (Some c) =
+    items_json (position_at e text c.start) (position_at e text byte) (kind_number c.kind) (offered w roots r named bound c.kind)
 
-abbrev pub completion_of : Encoding → Workspace → List (List ℕ) → RegisteredVal → List ℕ → List Part → ℕ → Json
-completion_of e w folders r text parts byte =
-    completion_json e w folders r text (names_of parts) (bound_of parts) byte (option_map (completion_at byte) (slot_of (length text) byte parts))
+abbrev pub completion_of : Encoding → Workspace → RootsVal → RegisteredVal → List ℕ → List Part → ℕ → Json
+completion_of e w roots r text parts byte =
+    completion_json e w roots r text (names_of parts) (bound_of parts) byte (option_map (completion_at byte) (slot_of (length text) byte parts))
 
 -- at a position of a text
-abbrev pub IsCompletion : Encoding → Workspace → List (List ℕ) → RegisteredVal → List ℕ → Position → Json → Type 0
-IsCompletion e w folders r text p j =
-    (parts : List Part) × ArePartsOf text parts × (j ≡ completion_of e w folders r text parts (byte_of e (lines_of text) p))
+abbrev pub IsCompletion : Encoding → Workspace → RootsVal → RegisteredVal → List ℕ → Position → Json → Type 0
+IsCompletion e w roots r text p j =
+    (parts : List Part) × ArePartsOf text parts × (j ≡ completion_of e w roots r text parts (byte_of e (lines_of text) p))

@@ -16,7 +16,7 @@ use Rattle.tera_workspace.specs.Components.{files_of}
 use Rattle.tera_workspace.specs.Definitions.{DefinitionVal, definition_of_name}
 use Rattle.tera_workspace.specs.declared.workspace.Workspace.{Workspace}
 use Rattle.tera_editor.specs.Editors.{seen_of, uri_in}
-use Rattle.tera_editor.specs.Templates.{template_in}
+use Rattle.tera_editor.specs.Templates.{RootsVal, template_in}
 use Rattle.tera_editor.specs.declared.editor.Editor.{Editor}
 
 -- the name at a position of a text, if one is there
@@ -28,9 +28,9 @@ IsNamedAt e text p named =
 abbrev pub first_of : List ℕ → DefinitionVal
 first_of file = record { file = file; start = record { line = 0; character = 0 }; end = record { line = 0; character = 0 } }
 
--- the name of a template leads to the file that has it, by the folders that are open
-abbrev pub template_place : Workspace → List (List ℕ) → List ℕ → Option DefinitionVal
-template_place w folders name = option_map first_of (template_in folders (files_of w) name)
+-- the name of a template leads to the file that has it
+abbrev pub template_place : Workspace → RootsVal → List ℕ → Option DefinitionVal
+template_place w roots name = option_map first_of (template_in roots (files_of w) name)
 
 -- whether a name stands for a component; else it stands for a template
 abbrev pub is_component : NameKind → Bool
@@ -41,12 +41,12 @@ is_component Extended = false
 is_component Included = false
 
 -- what a name leads to
-abbrev pub place_by : NameKind → Workspace → List (List ℕ) → List ℕ → Option DefinitionVal
-place_by kind w folders name = if is_component kind then definition_of_name w name else template_place w folders name
+abbrev pub place_by : NameKind → Workspace → RootsVal → List ℕ → Option DefinitionVal
+place_by kind w roots name = if is_component kind then definition_of_name w name else template_place w roots name
 
-abbrev pub place_of : Workspace → List (List ℕ) → Option Named → Option DefinitionVal
-place_of w folders None = None
-place_of w folders (Some n) = place_by n.kind w folders n.text
+abbrev pub place_of : Workspace → RootsVal → Option Named → Option DefinitionVal
+place_of w roots None = None
+place_of w roots (Some n) = place_by n.kind w roots n.text
 
 -- the place as a location; `null` if the name leads nowhere
 abbrev pub place_json : Editor → Option DefinitionVal → Json

@@ -9,6 +9,7 @@ use Rattle.tera_workspace.specs.declared.workspace.Workspace.{Workspace}
 use Rattle.text_edits.specs.Documents.{text_of}
 use Rattle.text_edits.specs.Stored.{document_of}
 use Rattle.tera_answers.specs.Definitions.{is_component, place_of}
+use Rattle.tera_editor.specs.Templates.{RootsVal}
 
 -- the component that a name stands for, if it stands for one
 abbrev pub component_in : Option Named → Option (List ℕ)
@@ -44,9 +45,9 @@ hover_json (Some head) =
 -- ---- what holds of it
 
 -- this is the head of a definition of the component, in the text of the file to which the name leads
-pub record IsOfDefinition (w : Workspace) (folders : List (List ℕ)) (named : Option Named) (reported : List ℕ) : Type 0 where
+pub record IsOfDefinition (w : Workspace) (roots : RootsVal) (named : Option Named) (reported : List ℕ) : Type 0 where
   pub name : List ℕ
   pub component : component_in named ≡ Some name
   pub place : DefinitionVal
-  pub leads : place_of w folders named ≡ Some place
+  pub leads : place_of w roots named ≡ Some place
   pub head : IsHeadIn (text_of (document_of w.documents place.file)) name (Some reported)

@@ -14,7 +14,7 @@ ghost use Rattle.tera_tree.specs.Calls.{texts, once_each};
 ghost use Rattle.tera_workspace.specs.Components.{components_of, parameters_of_name};
 ghost use Rattle.tera_answers.specs.Completions.{defined_names, loop_names, offered, kind_number, item_json, item_tokens, items_json, IsCompletion};
 ghost use Rattle.tera_editor.specs.Settings.{registered_view};
-ghost use Rattle.tera_editor.specs.Templates.{template_name};
+ghost use Rattle.tera_editor.specs.Templates.{roots_view, template_name};
 
 use json::{Token, Writer};
 use json_members::{put_number, put_tokens};
@@ -22,7 +22,7 @@ use protocol_values::put_edit;
 use std::alloc::{AllocError, Global};
 use std::collections::BTreeSet;
 use tera_editor::settings::RegisteredNames;
-use tera_editor::templates::template_name;
+use tera_editor::templates::{Roots, template_name};
 use tera_lexer::words::STATEMENTS;
 use tera_outline::{
     CompletionKind, Name, NameKind, Piece, bound_of, completion_for, names_of, pieces_of,
@@ -34,7 +34,7 @@ use text_edits::{Encoding, Lines, Position, byte_at, position_at};
 #[derive(Clone, Copy)]
 pub struct Offering<'w> {
     pub workspace: &'w Workspace,
-    pub folders: &'w Vec<String>,
+    pub roots: Roots<'w>,
 }
 
 // All that offered names come from.
@@ -76,7 +76,7 @@ pub fn put_completion(
     position: Position,
 ) -> Result<(), AllocError>
     ensures tokens { OnOk result ((j : Json) × IsCompletion encoding offering.entry.workspace.now
-        (map string_bytes offering.entry.folders.now.items) (registered_view registered.entry) text.now position j
+        (roots_view offering.entry.roots) (registered_view registered.entry) text.now position j
         × (out.new.tokens ≡ out.old.tokens ++ json_tokens j)) }
     ensures before { out.new.before ≡ out.old.before }
 {
@@ -106,7 +106,7 @@ fn put_offered(
 ) -> Result<(), AllocError>
     ensures { PutsJson result out.old out.new
         (items_json place.start place.end (kind_number place.kind)
-        (offered offering.entry.workspace.now (map string_bytes offering.entry.folders.now.items)
+        (offered offering.entry.workspace.now (roots_view offering.entry.roots)
         (registered_view registered.entry) (names_of (map part_of pieces.now))
         (bound_of (map part_of pieces.now)) place.kind)) }
 {
@@ -130,7 +130,7 @@ fn offered<'w>(
     kind: CompletionKind,
 ) -> Result<Vec<&'w str>, AllocError>
     ensures { IfOk result (λ v. texts v.items ≡ offered given.entry.offering.workspace.now
-        (map string_bytes given.entry.offering.folders.now.items) (registered_view given.entry.registered)
+        (roots_view given.entry.offering.roots) (registered_view given.entry.registered)
         (map name_view given.entry.named.now) (texts given.entry.bound.now) kind) }
 {
     let workspace = given.offering.workspace;
@@ -139,7 +139,7 @@ fn offered<'w>(
         CompletionKind::Component => components(alloc, workspace, given.named),
         CompletionKind::Template => {
             let files = workspace.files(alloc)?;
-            templates(alloc, given.offering.folders, &files)
+            templates(alloc, given.offering.roots, &files)
         }
         CompletionKind::Argument(call) => arguments(alloc, workspace, given.named, call),
         CompletionKind::Filter => listed(alloc, given.registered.filters),
@@ -229,15 +229,15 @@ fn arguments<'w>(
 // The names of the templates in these files.
 fn templates<'w>(
     alloc: Global,
-    folders: &Vec<String>,
+    roots: Roots<'_>,
     files: &Vec<&'w str>,
 ) -> Result<Vec<&'w str>, AllocError>
     ensures { IfOk result (λ v. texts v.items
-        ≡ filter_map (template_name (map string_bytes folders.now.items)) (texts files.now.items)) }
+        ≡ filter_map (template_name (roots_view roots.entry)) (texts files.now.items)) }
 {
     let mut names = Vec::new(alloc);
     for file in files {
-        if let Some(name) = template_name(folders, file) {
+        if let Some(name) = template_name(roots, file) {
             names.push(name)?;
         }
     }

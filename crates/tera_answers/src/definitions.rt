@@ -1,11 +1,12 @@
 //! Where what is named in a text is defined.
 
-ghost use Rattle.std.specs.Prelude.{◌≡◌, map, string_bytes, IfOk};
+ghost use Rattle.std.specs.Prelude.{◌≡◌, IfOk};
 ghost use Rattle.std.specs.Option.{option_map};
 ghost use Rattle.json_members.specs.Written.{PutsJson};
 ghost use Rattle.tera_outline.specs.Names.{name_view};
 ghost use Rattle.tera_workspace.specs.Definitions.{definition_view};
 ghost use Rattle.tera_answers.specs.Definitions.{IsNamedAt, is_component, template_place, place_of, place_json};
+ghost use Rattle.tera_editor.specs.Templates.{roots_view};
 
 use crate::completions::Offering;
 use json::Writer;
@@ -42,7 +43,7 @@ pub fn put_definition(
 ) -> Result<(), AllocError>
     ensures { PutsJson result out.old out.new
         (place_json editor.now (place_of offering.entry.workspace.now
-        (map string_bytes offering.entry.folders.now.items) (option_map name_view name.now))) }
+        (roots_view offering.entry.roots) (option_map name_view name.now))) }
 {
     match place_of(alloc, offering, name)? {
         Some(place) => {
@@ -59,7 +60,7 @@ fn place_of(
     name: &Option<Name>,
 ) -> Result<Option<Definition>, AllocError>
     ensures { IfOk result (λ place. option_map definition_view place ≡ place_of offering.entry.workspace.now
-        (map string_bytes offering.entry.folders.now.items) (option_map name_view name.now)) }
+        (roots_view offering.entry.roots) (option_map name_view name.now)) }
 {
     match name {
         Some(name) if is_component(name.kind) => {
@@ -87,11 +88,10 @@ fn template_place(
     name: &str,
 ) -> Result<Option<Definition>, AllocError>
     ensures { IfOk result (λ place. option_map definition_view place ≡ template_place offering.entry.workspace.now
-        (map string_bytes offering.entry.folders.now.items) name.now) }
+        (roots_view offering.entry.roots) name.now) }
 {
     let files = offering.workspace.files(alloc)?;
-    let folders = offering.folders.as_slice();
-    let Some(file) = template_in(alloc, folders, files.as_slice(), name)? else {
+    let Some(file) = template_in(alloc, offering.roots, files.as_slice(), name)? else {
         return Ok(None);
     };
     let first = Position {

@@ -1,9 +1,10 @@
 -- The names of templates, and the files that have them.
-use Rattle.std.specs.Prelude.{◌≡◌, ◌⊎◌, ◌≤◌, ℕ, nat_eq, nat_lt, if◌then◌else◌, Bool, true, false, List, [], ◌∷◌, codes, length, filter, Option, None, Some, option_map, unwrap_or}
+use Rattle.std.specs.Prelude.{◌≡◌, ◌⊎◌, ◌≤◌, ℕ, nat_eq, nat_lt, if◌then◌else◌, Bool, true, false, List, [], ◌∷◌, codes, length, filter, map, string_bytes, Option, None, Some, option_map, unwrap_or}
 use Rattle.std.specs.List.{All, Contains, ends_with}
 use Rattle.std.specs.Option.{option_and_then, option_map_or, option_or}
 use Rattle.std.specs.Str.{bytes_eq}
 use Rattle.file_uris.specs.Names.{is_rooted}
+use Rattle.tera_editor.specs.declared.templates.Roots.{Roots}
 
 -- what comes after the front of a text
 abbrev pub following : List ℕ → List ℕ → Option (List ℕ)
@@ -29,13 +30,32 @@ abbrev pub is_inside : List ℕ → List ℕ → Bool
 is_inside folder file = option_map_or is_rooted (following folder file) false
 
 -- the name by the first of the folders that its file is in
-abbrev pub template_name : List (List ℕ) → List ℕ → Option (List ℕ)
-template_name [] file = None
-template_name (f ∷ fs) file = option_or (name_below f file) (template_name fs file)
+abbrev pub name_in_first : List (List ℕ) → List ℕ → Option (List ℕ)
+name_in_first [] file = None
+name_in_first (f ∷ fs) file = option_or (name_below f file) (name_in_first fs file)
+
+-- .. or by the root of a site: the path below it
+abbrev pub path_below : List ℕ → List ℕ → Option (List ℕ)
+path_below root file = option_and_then (following (codes "/")) (following root file)
+
+-- by which templates have their names: the root of the site of a document, if it has one, or else the folders that are open
+pub record RootsVal : Type 0 where
+  pub site : Option (List ℕ)
+  pub folders : List (List ℕ)
+
+abbrev pub roots_view : Roots → RootsVal
+roots_view r = record { site = option_map (λ root. root.now) r.site; folders = map string_bytes r.folders.now }
+
+abbrev pub name_by : Option (List ℕ) → List (List ℕ) → List ℕ → Option (List ℕ)
+name_by None folders file = name_in_first folders file
+name_by (Some root) folders file = path_below root file
+
+abbrev pub template_name : RootsVal → List ℕ → Option (List ℕ)
+template_name roots file = name_by roots.site roots.folders file
 
 -- whether a file has the name, and whether its path ends in it below some folder
-abbrev pub is_named : List (List ℕ) → List ℕ → List ℕ → Bool
-is_named folders name file = option_map_or (λ n. bytes_eq n name) (template_name folders file) false
+abbrev pub is_named : RootsVal → List ℕ → List ℕ → Bool
+is_named roots name file = option_map_or (λ n. bytes_eq n name) (template_name roots file) false
 
 abbrev pub is_below : List ℕ → List ℕ → Bool
 is_below name file = ends_with nat_eq file (47 ∷ name)
@@ -52,16 +72,16 @@ nearest [] = None
 nearest (f ∷ fs) = nearer (Some f) (nearest fs)
 
 -- the template of a name: the file with the shortest path that has it, or else that ends in it
-abbrev pub template_in : List (List ℕ) → List (List ℕ) → List ℕ → Option (List ℕ)
-template_in folders files name =
-    option_or (nearest (filter (is_named folders name) files)) (nearest (filter (is_below name) files))
+abbrev pub template_in : RootsVal → List (List ℕ) → List ℕ → Option (List ℕ)
+template_in roots files name =
+    option_or (nearest (filter (is_named roots name) files)) (nearest (filter (is_below name) files))
 
 -- ---- what holds of it
 
 -- a file that exists and has the name; or none has it, and the path of this one ends in it. No other such file has a
 -- shorter path
-pub record IsTemplateOf (folders files : List (List ℕ)) (name file : List ℕ) : Type 0 where
+pub record IsTemplateOf (roots : RootsVal) (files : List (List ℕ)) (name file : List ℕ) : Type 0 where
   pub there : Contains files file
-  pub named : (template_name folders file ≡ Some name)
-      ⊎ ((is_below name file ≡ true) × All (λ f. is_named folders name f ≡ false) files)
-  pub shortest : All (λ f. template_name folders f ≡ Some name → length file ≤ length f) files
+  pub named : (template_name roots file ≡ Some name)
+      ⊎ ((is_below name file ≡ true) × All (λ f. is_named roots name f ≡ false) files)
+  pub shortest : All (λ f. template_name roots f ≡ Some name → length file ≤ length f) files

@@ -5,12 +5,37 @@ ghost use Rattle.std.specs.List.{ends_with};
 ghost use Rattle.std.specs.Option.{option_map};
 ghost use Rattle.tera_tree.specs.Calls.{texts};
 ghost use Rattle.tera_editor.specs.Templates as specs;
+ghost use Rattle.tera_editor.specs.Templates.{roots_view};
 
 use std::alloc::{AllocError, Global};
 
-/// The name of the template in a file, by the first of the folders that the file is in.
-pub fn template_name<'f>(folders: &[String], file: &'f str) -> Option<&'f str>
-    ensures { option_map (λ n. n.now) result ≡ specs.template_name (map string_bytes folders.now) file.now }
+/// By which templates have their names in a document: the root of its site, if it has one, or else the folders that are
+/// open.
+#[derive(Clone, Copy)]
+pub struct Roots<'r> {
+    pub site: Option<&'r str>,
+    pub folders: &'r [String],
+}
+
+/// The name of the template in a file: its path below the root, or by the first of the folders that the file is in.
+pub fn template_name<'f>(roots: Roots<'_>, file: &'f str) -> Option<&'f str>
+    ensures { option_map (λ n. n.now) result ≡ specs.template_name (roots_view roots.entry) file.now }
+{
+    match roots.site {
+        Some(root) => path_below(root, file),
+        None => name_in_first(roots.folders, file),
+    }
+}
+
+fn path_below<'f>(root: &str, file: &'f str) -> Option<&'f str>
+    ensures { option_map (λ n. n.now) result ≡ specs.path_below root.now file.now }
+{
+    let path = file.strip_prefix(root)?;
+    path.strip_prefix("/")
+}
+
+fn name_in_first<'f>(folders: &[String], file: &'f str) -> Option<&'f str>
+    ensures { option_map (λ n. n.now) result ≡ specs.name_in_first (map string_bytes folders.now) file.now }
 {
     for folder in folders {
         if let Some(name) = name_below(folder.as_str(), file) {
@@ -47,14 +72,14 @@ pub fn is_inside(folder: &str, file: &str) -> bool
 /// those whose path ends in it, below any folder.
 pub fn template_in<'f>(
     alloc: Global,
-    folders: &[String],
+    roots: Roots<'_>,
     files: &[&'f str],
     name: &str,
 ) -> Result<Option<&'f str>, AllocError>
     ensures { IfOk result (λ file. option_map (λ f. f.now) file
-        ≡ specs.template_in (map string_bytes folders.now) (texts files.now) name.now) }
+        ≡ specs.template_in (roots_view roots.entry) (texts files.now) name.now) }
 {
-    if let Some(file) = nearest_named(folders, files, name) {
+    if let Some(file) = nearest_named(roots, files, name) {
         return Ok(Some(file));
     }
     let mut ending = String::from_str(alloc, "/")?;
@@ -63,13 +88,13 @@ pub fn template_in<'f>(
 }
 
 // The file with the shortest path among those that have the name.
-fn nearest_named<'f>(folders: &[String], files: &[&'f str], name: &str) -> Option<&'f str>
+fn nearest_named<'f>(roots: Roots<'_>, files: &[&'f str], name: &str) -> Option<&'f str>
     ensures { option_map (λ f. f.now) result ≡ specs.nearest (filter
-        (specs.is_named (map string_bytes folders.now) name.now) (texts files.now)) }
+        (specs.is_named (roots_view roots.entry) name.now) (texts files.now)) }
 {
     let mut best = None;
     for file in files {
-        if is_named(folders, name, file) {
+        if is_named(roots, name, file) {
             best = Some(nearer(best, file));
         }
     }
@@ -91,10 +116,10 @@ fn nearest_below<'f>(files: &[&'f str], ending: &str) -> Option<&'f str>
 }
 
 // Whether the file has the name.
-fn is_named(folders: &[String], name: &str, file: &str) -> bool
-    ensures { result ≡ specs.is_named (map string_bytes folders.now) name.now file.now }
+fn is_named(roots: Roots<'_>, name: &str, file: &str) -> bool
+    ensures { result ≡ specs.is_named (roots_view roots.entry) name.now file.now }
 {
-    match template_name(folders, file) {
+    match template_name(roots, file) {
         Some(found) => found == name,
         None => false,
     }

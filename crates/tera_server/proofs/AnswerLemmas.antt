@@ -24,25 +24,25 @@ use Rattle.tera_answers.specs.Definitions.{first_of, is_component, template_plac
 use Rattle.tera_answers.specs.Hovers.{component_in, text_at, IsHeadIn, IsHeadBy, IsHead, IsOfDefinition}
 use Rattle.tera_answers.specs.References.{LookedFor, refers, is_definition, reference_json, AreReferences, AreReferencesIn, IsLookedFor, IsReferenceIn, AreAllOf}
 use Rattle.tera_editor.specs.Settings.{RegisteredVal}
-use Rattle.tera_editor.specs.Templates.{template_name, template_in}
+use Rattle.tera_editor.specs.Templates.{RootsVal, template_name, template_in}
 use Rattle.tera_server.proofs.NearestLemmas.{has_its_name, leads}
 
 -- ---- what is offered
 
-module _ (w : Workspace) (folders : List (List ℕ)) (r : RegisteredVal) (named : List Named) (bound : List (List ℕ)) (n : List ℕ) where
-  pub offered_component : Contains (offered w folders r named bound Component) n → ((d : DefinitionVal) × (definition_of_name w n ≡ Some d)) ⊎ Contains (defined_names named) n
+module _ (w : Workspace) (roots : RootsVal) (r : RegisteredVal) (named : List Named) (bound : List (List ℕ)) (n : List ℕ) where
+  pub offered_component : Contains (offered w roots r named bound Component) n → ((d : DefinitionVal) × (definition_of_name w n ≡ Some d)) ⊎ Contains (defined_names named) n
   offered_component c = elim (Contains-append_cases (components_of w) (defined_names named) n c) [
     | inl c ↦ inl (reported_of_defined w.encoding (sources_of w.judged.items) (templates_of w.judged.items) n c)
     | inr c ↦ inr c
   ]
 
-  pub offered_template : Contains (offered w folders r named bound Template) n → (f : List ℕ) × Contains (files_of w) f × (template_name folders f ≡ Some n) × (template_place w folders n ≡ Some (first_of f))
+  pub offered_template : Contains (offered w roots r named bound Template) n → (f : List ℕ) × Contains (files_of w) f × (template_name roots f ≡ Some n) × (template_place w roots n ≡ Some (first_of f))
   offered_template c =
-      let (file, there, has) = in_filter_map (template_name folders) (files_of w) n c in
-      let (f, is, named) = leads folders (files_of w) n file there has in
-      (f, (has_its_name folders (files_of w) n f is).there, named, ap (option_map first_of) is)
+      let (file, there, has) = in_filter_map (template_name roots) (files_of w) n c in
+      let (f, is, named) = leads roots (files_of w) n file there has in
+      (f, (has_its_name roots (files_of w) n f is).there, named, ap (option_map first_of) is)
 
-  pub offered_parameter : (call : ℕ) → Contains (offered w folders r named bound (Argument call)) n → (m : Named) × (find (holds call) named ≡ Some m) × IsParameterIn (templates_of w.judged.items) m.text n
+  pub offered_parameter : (call : ℕ) → Contains (offered w roots r named bound (Argument call)) n → (m : Named) × (find (holds call) named ≡ Some m) × IsParameterIn (templates_of w.judged.items) m.text n
   offered_parameter call c = by (find (holds call) named) c
     where
       by : (o : Option Named) → Contains (option_map_or (λ m. parameters_of_name w m.text) o []) n → (m : Named) × (o ≡ Some m) × IsParameterIn (templates_of w.judged.items) m.text n
@@ -51,22 +51,22 @@ module _ (w : Workspace) (folders : List (List ℕ)) (r : RegisteredVal) (named 
 
 -- ---- the head that is reported
 
-module _ (w : Workspace) (folders : List (List ℕ)) (reported : List ℕ) where
-  head_of_component : (n : Named) (o : Option DefinitionVal) → is_component n.kind ≡ true → definition_of_name w n.text ≡ o → IsHeadIn (text_at w o) n.text (Some reported) → IsOfDefinition w folders (Some n) reported
+module _ (w : Workspace) (roots : RootsVal) (reported : List ℕ) where
+  head_of_component : (n : Named) (o : Option DefinitionVal) → is_component n.kind ≡ true → definition_of_name w n.text ≡ o → IsHeadIn (text_at w o) n.text (Some reported) → IsOfDefinition w roots (Some n) reported
   head_of_component n None is found h = absurd (cc)
   head_of_component n (Some d) is found h = record {
     name = n.text;
     component = ap (λ b. if b then Some n.text else None) is;
     place = d;
-    leads = ap (λ b. if b then definition_of_name w n.text else template_place w folders n.text) is ∙ found;
+    leads = ap (λ b. if b then definition_of_name w n.text else template_place w roots n.text) is ∙ found;
     head = h;
   }
 
-  pub of_definition : (named : Option Named) → IsHead w named (Some reported) → IsOfDefinition w folders named reported
+  pub of_definition : (named : Option Named) → IsHead w named (Some reported) → IsOfDefinition w roots named reported
   of_definition None h = absurd (cc)
   of_definition (Some n) h = by (is_component n.kind) refl h
     where
-      by : (b : Bool) → is_component n.kind ≡ b → IsHeadBy w (if b then Some n.text else None) (Some reported) → IsOfDefinition w folders (Some n) reported
+      by : (b : Bool) → is_component n.kind ≡ b → IsHeadBy w (if b then Some n.text else None) (Some reported) → IsOfDefinition w roots (Some n) reported
       by true is h = head_of_component n (definition_of_name w n.text) is refl h
       by false is h = absurd (cc)
 

@@ -5,7 +5,7 @@ use Rattle.std.specs.Option.{option_map_or, option_or}
 use Rattle.std.specs.Str.{bytes_eq}
 use Rattle.std.proofs.lemmas.Slice.Eq.{bytes_eq-Decides}
 use Rattle.tera_workspace.proofs.ContainLemmas.{first_in, later_in, all_first}
-use Rattle.tera_editor.specs.Templates.{template_name, is_named, is_below, nearer, nearest, template_in, IsTemplateOf}
+use Rattle.tera_editor.specs.Templates.{RootsVal, template_name, is_named, is_below, nearer, nearest, template_in, IsTemplateOf}
 
 -- ---- of the files that pass a test
 
@@ -77,33 +77,33 @@ name_of_named : (name : List ℕ) (o : Option (List ℕ)) → option_map_or (λ 
 name_of_named name None e = absurd (true≢false (sym e))
 name_of_named name (Some n) e = ap Some ((bytes_eq-Decides n name).0 e)
 
-named_by_name : (folders : List (List ℕ)) (name f : List ℕ) → template_name folders f ≡ Some name → is_named folders name f ≡ true
-named_by_name folders name f e = ap (λ o. option_map_or (λ n. bytes_eq n name) o false) e ∙ (bytes_eq-Decides name name).1 refl
+named_by_name : (roots : RootsVal) (name f : List ℕ) → template_name roots f ≡ Some name → is_named roots name f ≡ true
+named_by_name roots name f e = ap (λ o. option_map_or (λ n. bytes_eq n name) o false) e ∙ (bytes_eq-Decides name name).1 refl
 
-module _ (folders files : List (List ℕ)) (name : List ℕ) where
-  pub has_its_name : (file : List ℕ) → template_in folders files name ≡ Some file → IsTemplateOf folders files name file
-  has_its_name file e = by (nearest (filter (is_named folders name) files)) refl e
+module _ (roots : RootsVal) (files : List (List ℕ)) (name : List ℕ) where
+  pub has_its_name : (file : List ℕ) → template_in roots files name ≡ Some file → IsTemplateOf roots files name file
+  has_its_name file e = by (nearest (filter (is_named roots name) files)) refl e
     where
-      by : (o : Option (List ℕ)) → nearest (filter (is_named folders name) files) ≡ o → option_or o (nearest (filter (is_below name) files)) ≡ Some file → IsTemplateOf folders files name file
+      by : (o : Option (List ℕ)) → nearest (filter (is_named roots name) files) ≡ o → option_or o (nearest (filter (is_below name) files)) ≡ Some file → IsTemplateOf roots files name file
       by None none e =
           let h = is_nearest (is_below name) files file e in
-          let unnamed = none_passes (is_named folders name) files none in
+          let unnamed = none_passes (is_named roots name) files none in
           record {
             there = h.there;
             named = inr (h.passes, unnamed);
-            shortest = λ k d within has. absurd (true≢false (sym (named_by_name folders name _ has) ∙ unnamed k d within));
+            shortest = λ k d within has. absurd (true≢false (sym (named_by_name roots name _ has) ∙ unnamed k d within));
           }
       by (Some f) one e =
-          let h = is_nearest (is_named folders name) files file (one ∙ e) in
+          let h = is_nearest (is_named roots name) files file (one ∙ e) in
           record {
             there = h.there;
-            named = inl (name_of_named name (template_name folders file) h.passes);
-            shortest = λ k d within has. h.shortest k d within (named_by_name folders name _ has);
+            named = inl (name_of_named name (template_name roots file) h.passes);
+            shortest = λ k d within has. h.shortest k d within (named_by_name roots name _ has);
           }
 
-  pub leads : (file : List ℕ) → Contains files file → template_name folders file ≡ Some name → (f : List ℕ) × (template_in folders files name ≡ Some f) × (template_name folders f ≡ Some name)
-  leads file (k, within, is) has = by (nearest (filter (is_named folders name) files)) refl
+  pub leads : (file : List ℕ) → Contains files file → template_name roots file ≡ Some name → (f : List ℕ) × (template_in roots files name ≡ Some f) × (template_name roots f ≡ Some name)
+  leads file (k, within, is) has = by (nearest (filter (is_named roots name) files)) refl
     where
-      by : (o : Option (List ℕ)) → nearest (filter (is_named folders name) files) ≡ o → (f : List ℕ) × (option_or o (nearest (filter (is_below name) files)) ≡ Some f) × (template_name folders f ≡ Some name)
-      by None none = absurd (true≢false (sym (named_by_name folders name file has) ∙ (sym (ap (is_named folders name) is) ∙ none_passes (is_named folders name) files none k file within)))
-      by (Some f) one = (f, refl, name_of_named name (template_name folders f) (is_nearest (is_named folders name) files f one).passes)
+      by : (o : Option (List ℕ)) → nearest (filter (is_named roots name) files) ≡ o → (f : List ℕ) × (option_or o (nearest (filter (is_below name) files)) ≡ Some f) × (template_name roots f ≡ Some name)
+      by None none = absurd (true≢false (sym (named_by_name roots name file has) ∙ (sym (ap (is_named roots name) is) ∙ none_passes (is_named roots name) files none k file within)))
+      by (Some f) one = (f, refl, name_of_named name (template_name roots f) (is_nearest (is_named roots name) files f one).passes)

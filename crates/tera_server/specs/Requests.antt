@@ -1,6 +1,6 @@
 -- The answers to requests.
 use Rattle.std.specs.Prelude.{◌≡◌, ◌⊎◌, ◌++◌, if◌then◌else◌, ℕ, List, [], ◌∷◌, Bool, true, false, codes, map, string_bytes, MatchResult, Option, None, Some, Result, Vec}
-use Rattle.std.specs.Option.{option_map_or}
+use Rattle.std.specs.Option.{option_map, option_map_or}
 use Rattle.std.specs.Str.{bytes_eq}
 use Rattle.std.specs.declared.alloc.Global.{Global}
 use Rattle.file_uris.specs.Names.{IsNameOf}
@@ -36,6 +36,8 @@ use Rattle.tera_answers.specs.References.{declares, IsList}
 use Rattle.tera_answers.specs.SemanticTokens.{AreTokens}
 use Rattle.tera_editor.specs.Settings.{markers_for, registered_for}
 use Rattle.tera_answers.specs.Signatures.{IsSignature}
+use Rattle.tera_editor.specs.Sites.{site_for}
+use Rattle.tera_editor.specs.Templates.{RootsVal}
 use Rattle.tera_editor.specs.declared.editor.DocumentState.{DocumentState}
 use Rattle.tera_editor.specs.declared.editor.DocumentState.TheVariants.{Open, Lost, Closed}
 use Rattle.tera_server.specs.declared.requests.Asked.{Asked}
@@ -105,10 +107,10 @@ abbrev pub range_given : Option Json → Option (Position × Position)
 range_given params = range_in (member_of (codes "range") params)
 
 -- this is what is named there in the text of the document, if anything is
-abbrev pub IsNamed : Option Position → Option (List ℕ) → Server → Option Named → Type 0
-IsNamed None uri s named = ⊥
-IsNamed (Some position) uri s named =
-    (text : List ℕ) × IsMeant uri s text × IsNamedAt s.client.encoding text position named
+abbrev pub IsNamed : Option Position → Option (List ℕ) → Server → List ℕ → Option Named → Type 0
+IsNamed None uri s name named = ⊥
+IsNamed (Some position) uri s name named =
+    (text : List ℕ) × IsMeantAs uri s name text × IsNamedAt s.client.encoding text position named
 
 -- documents that changed may have been read, and nothing else of the server changes
 pub record HasRead (s t : Server) : Type 0 where
@@ -123,6 +125,13 @@ pub record IsOfCurrentTexts (Holds : Server → Json → Type 0) (s : Server) (j
   pub read : IsKept s.workspace → AreRead t.workspace
   pub reported : Holds t j
   pub stays : HasRead s t
+
+-- by which templates have their names in a document: the root of its site, if it has one
+abbrev pub roots_for : Server → List ℕ → RootsVal
+roots_for s name = record {
+  site = option_map (λ site. site.root) (site_for s.sites (map string_bytes s.folders.items) name);
+  folders = map string_bytes s.folders.items;
+}
 
 -- the places that refer to what a name stands for
 abbrev pub AreListed : Bool → Option Named → Server → Json → Type 0
@@ -155,18 +164,18 @@ IsResultOfDocument request uri s j =
 
 -- .. and about a name: the place that it leads to, the head of its definition, or the places that refer to what it
 -- stands for
-abbrev pub IsResultOfName : NameRequest → Option Json → Option Named → Server → Json → Type 0
-IsResultOfName of_name.Definition params named t j =
-    j ≡ place_json t.editor (place_of t.workspace (map string_bytes t.folders.items) named)
-IsResultOfName of_name.Hover params named t j = (head : Option (List ℕ)) × IsHead t.workspace named head × (j ≡ hover_json head)
-IsResultOfName of_name.References params named t j = AreListed (declares params) named t j
+abbrev pub IsResultOfName : NameRequest → Option Json → List ℕ → Option Named → Server → Json → Type 0
+IsResultOfName of_name.Definition params file named t j =
+    j ≡ place_json t.editor (place_of t.workspace (roots_for t file) named)
+IsResultOfName of_name.Hover params file named t j = (head : Option (List ℕ)) × IsHead t.workspace named head × (j ≡ hover_json head)
+IsResultOfName of_name.References params file named t j = AreListed (declares params) named t j
 
 -- this may be typed at the position in the text of the document
 abbrev pub IsOffered : Option Position → Option (List ℕ) → Server → Json → Type 0
 IsOffered None uri s j = ⊥
 IsOffered (Some position) uri s j =
     (name : List ℕ) × (text : List ℕ) × IsMeantAs uri s name text
-    × IsCompletion s.client.encoding s.workspace (map string_bytes s.folders.items) (registered_for s.settings (map string_bytes s.folders.items) name) text position j
+    × IsCompletion s.client.encoding s.workspace (roots_for s name) (registered_for s.settings (map string_bytes s.folders.items) name) text position j
 
 -- this is what the component takes whose call the position is in
 abbrev pub IsSignedAt : Option Position → Option (List ℕ) → Server → Json → Type 0
@@ -193,7 +202,8 @@ AreOfRange wanted (Some range) uri s j =
 -- the result of a request about a position: about the name there, or about what may be typed there
 abbrev pub IsResultAt : PlaceRequest → Option Json → Server → Json → Type 0
 IsResultAt (at_place.OfName request) params t j =
-    (named : Option Named) × IsNamed (place_in params) (uri_given (document_in params)) t named × IsResultOfName request params named t j
+    (name : List ℕ) × (named : Option Named) × IsNamed (place_in params) (uri_given (document_in params)) t name named
+    × IsResultOfName request params name named t j
 IsResultAt at_place.Signature params t j = IsSignedAt (place_in params) (uri_given (document_in params)) t j
 IsResultAt at_place.Completion params t j = IsOffered (place_in params) (uri_given (document_in params)) t j
 

@@ -28,7 +28,7 @@ ghost use Rattle.tera_answers.specs.Positions.{position_at};
 ghost use Rattle.tera_answers.specs.References.{LookedFor, AreReferences, IsReferenceIn, AreAllOf};
 ghost use Rattle.tera_editor.specs.Settings.{ByRules, RegisteredVal, level_by, level_view};
 ghost use Rattle.tera_answers.specs.SemanticTokens.{all_kinds, kind_name, kind_number, placed, data_of, first, sent_token, read_from, end_of, AreApart};
-ghost use Rattle.tera_editor.specs.Templates.{template_in, template_name, IsTemplateOf};
+ghost use Rattle.tera_editor.specs.Templates.{RootsVal, template_in, template_name, IsTemplateOf};
 
 use tera_outline::laws::{symbols_in_text, symbols_nest};
 
@@ -84,46 +84,46 @@ pub fn semantic_tokens_read_back()
 /// The file to which the name of a template leads exists, and has that name; only if no file has the name, it is one
 /// whose path ends in it. No other file of the name has a shorter path.
 pub fn templates_have_their_names()
-    ensures { (folders files : List (List ℕ)) (name file : List ℕ) →
-        template_in folders files name ≡ Some file → IsTemplateOf folders files name file }
+    ensures { (roots : RootsVal) (files : List (List ℕ)) (name file : List ℕ) →
+        template_in roots files name ≡ Some file → IsTemplateOf roots files name file }
 {}
 
 /// The name of each file that exists leads to a file of that name.
 pub fn names_of_templates_lead()
-    ensures { (folders files : List (List ℕ)) (name file : List ℕ) → Contains files file →
-        template_name folders file ≡ Some name → (f : List ℕ)
-        × (template_in folders files name ≡ Some f) × (template_name folders f ≡ Some name) }
+    ensures { (roots : RootsVal) (files : List (List ℕ)) (name file : List ℕ) → Contains files file →
+        template_name roots file ≡ Some name → (f : List ℕ)
+        × (template_in roots files name ≡ Some f) × (template_name roots f ≡ Some name) }
 {}
 
 /// A component that is offered is defined in a document, or its name is after `component` or `endcomponent` in the text
 /// at the cursor.
 pub fn offered_components_are_defined()
-    ensures { (w : Workspace) (folders : List (List ℕ)) (r : RegisteredVal) (named : List Named)
+    ensures { (w : Workspace) (roots : RootsVal) (r : RegisteredVal) (named : List Named)
         (bound : List (List ℕ)) (n : List ℕ) →
-        Contains (offered w folders r named bound Component) n →
+        Contains (offered w roots r named bound Component) n →
         ((d : DefinitionVal) × (definition_of_name w n ≡ Some d)) ⊎ Contains (defined_names named) n }
 {}
 
 /// The name of a template that is offered leads to a file that exists and has that name.
 pub fn offered_templates_lead()
-    ensures { (w : Workspace) (folders : List (List ℕ)) (r : RegisteredVal) (named : List Named)
+    ensures { (w : Workspace) (roots : RootsVal) (r : RegisteredVal) (named : List Named)
         (bound : List (List ℕ)) (n : List ℕ) →
-        Contains (offered w folders r named bound Template) n → (f : List ℕ) × Contains (files_of w) f
-        × (template_name folders f ≡ Some n) × (template_place w folders n ≡ Some (first_of f)) }
+        Contains (offered w roots r named bound Template) n → (f : List ℕ) × Contains (files_of w) f
+        × (template_name roots f ≡ Some n) × (template_place w roots n ≡ Some (first_of f)) }
 {}
 
 /// A parameter that is offered is one of a definition of the component that is called, in a document that was read.
 pub fn offered_parameters_are_defined()
-    ensures { (w : Workspace) (folders : List (List ℕ)) (r : RegisteredVal) (named : List Named)
+    ensures { (w : Workspace) (roots : RootsVal) (r : RegisteredVal) (named : List Named)
         (bound : List (List ℕ)) (n : List ℕ) (call : ℕ) →
-        Contains (offered w folders r named bound (Argument call)) n → (m : Named)
+        Contains (offered w roots r named bound (Argument call)) n → (m : Named)
         × (find (holds call) named ≡ Some m) × IsParameterIn (templates_of w.judged.items) m.text n }
 {}
 
 /// The head that is shown for a name is the head of a definition in the text of the file to which the name leads.
 pub fn heads_are_of_definitions()
-    ensures { (w : Workspace) (folders : List (List ℕ)) (named : Option Named) (head : List ℕ) →
-        IsHead w named (Some head) → IsOfDefinition w folders named head }
+    ensures { (w : Workspace) (roots : RootsVal) (named : Option Named) (head : List ℕ) →
+        IsHead w named (Some head) → IsOfDefinition w roots named head }
 {}
 
 /// Each place that is listed has a name that is looked for, and each such name in a text is listed.

@@ -11,8 +11,9 @@ ghost use Rattle.tera_answers.specs.Actions.{acting_view, wants_corrections};
 ghost use Rattle.tera_outline.specs.Names.{name_view};
 ghost use Rattle.tera_editor.specs.Clients.{client_in};
 ghost use Rattle.tera_server.specs.Notes.{document_in, uri_given, AreNames};
-ghost use Rattle.tera_server.specs.Requests.{asked_of, folders_in, IsBegun, IsOpenAs, IsNotOpen, RefusesDocument, RefusesPlace, IsMeantAs, acting_of, range_given, AreOfRange, IsResultAsRead, IsResultBetween, IsResultOfDocument, IsResultOfText, IsResultOfName, IsResultAt, place_in, IsPut, IsAnsweredBy};
+ghost use Rattle.tera_server.specs.Requests.{asked_of, folders_in, IsBegun, IsOpenAs, IsNotOpen, RefusesDocument, RefusesPlace, IsMeantAs, acting_of, range_given, AreOfRange, IsResultAsRead, IsResultBetween, IsResultOfDocument, IsResultOfText, IsResultOfName, IsResultAt, place_in, roots_for, IsPut, IsAnsweredBy};
 ghost use Rattle.tera_editor.specs.Settings.{markers_for};
+ghost use Rattle.tera_editor.specs.Templates.{roots_view};
 ghost use Rattle.tera_server.specs.declared.server.Phase.TheVariants.{Running};
 
 use crate::notes::{names_in, push_name};
@@ -34,6 +35,7 @@ use tera_answers::signatures::put_signature;
 use tera_answers::symbols::put_outline;
 use tera_editor::client::Client;
 use tera_editor::editor::DocumentState;
+use tera_editor::templates::Roots;
 use tera_lexer::Delimiters;
 use tera_outline::Name;
 use tera_workspace::{FileText, Markers, Workspace};
@@ -252,12 +254,12 @@ impl Server {
         match request {
             PlaceRequest::OfName(request) => {
                 let named = name_at(alloc, self.client.encoding, text, position)?;
-                Ok(self.put_result_of_name(alloc, out, request, params, &named)?)
+                Ok(self.put_result_of_name(alloc, out, request, params, name.as_str(), &named)?)
             }
             PlaceRequest::Completion => {
                 let offering = Offering {
                     workspace: &self.workspace,
-                    folders: &self.folders,
+                    roots: self.roots_for(name.as_str()),
                 };
                 let registered = self
                     .settings
@@ -311,15 +313,33 @@ impl Server {
         }
     }
 
+    // By which templates have their names in the document.
+    fn roots_for(&self, file: &str) -> Roots<'_>
+        ensures { roots_view result ≡ roots_for self.now file.now }
+    {
+        let folders = self.folders.as_slice();
+        match self.sites.of(folders, file) {
+            Some(site) => Roots {
+                site: Some(site.root()),
+                folders,
+            },
+            None => Roots {
+                site: None,
+                folders,
+            },
+        }
+    }
+
     fn put_result_of_name(
         &self,
         alloc: Global,
         out: &mut Writer,
         request: NameRequest,
         params: Option<&Value<'_>>,
+        file: &str,
         name: &Option<Name>,
     ) -> Result<(), AllocError>
-        ensures tokens { OnOk result ((j : Json) × IsResultOfName request (seen params.entry) (option_map name_view name.now) self.now j
+        ensures tokens { OnOk result ((j : Json) × IsResultOfName request (seen params.entry) file.now (option_map name_view name.now) self.now j
             × (out.new.tokens ≡ out.old.tokens ++ json_tokens j)) }
         ensures before { out.new.before ≡ out.old.before }
     {
@@ -327,7 +347,7 @@ impl Server {
             NameRequest::Definition => {
                 let offering = Offering {
                     workspace: &self.workspace,
-                    folders: &self.folders,
+                    roots: self.roots_for(file),
                 };
                 put_definition(alloc, out, offering, &self.editor, name)
             }

@@ -7,6 +7,7 @@ use Rattle.tera_outline.specs.Pieces.{part_of}
 use Rattle.tera_tree.specs.Calls.{texts, once_each}
 use Rattle.tera_answers.specs.Completions.{item_json, kind_number, offered}
 use Rattle.tera_editor.specs.Settings.{registered_view}
+use Rattle.tera_editor.specs.Templates.{roots_view}
 use Rattle.tera_answers.proofs.Tails.{and_so}
 use Rattle.tera_answers.proofs.completions.put_offered.Goals as goal
 
@@ -14,7 +15,7 @@ pub returns : goal.returns
 returns c =
     let place = c.args.place in
     let w = c.args.offering.workspace.now in
-    let folders = map string_bytes c.args.offering.folders.now.items in
+    let roots = roots_view c.args.offering.roots in
     let r = registered_view c.args.registered in
     let parts = map part_of c.args.pieces.now in
     let written = λ (names : List (List ℕ)). c.args.out.now.tokens ++ json_tokens (array (items_of (map (item_json place.start place.end (kind_number place.kind)) names))) in
@@ -27,9 +28,9 @@ returns c =
           ∙ ap (λ names. once_each (texts names)) c.as_slice-3.ensures.value
           ∙ ap once_each
           (c.in_ok-names.ensures
-          ∙ ap (λ named. offered w folders r (map name_view named) (texts c.as_slice-2.result.now) place.kind) c.as_slice.ensures.value
-          ∙ ap (λ named. offered w folders r named (texts c.as_slice-2.result.now) place.kind) c.in_ok-named.ensures
-          ∙ ap (λ bound. offered w folders r (names_of parts) (texts bound) place.kind) c.as_slice-2.ensures.value
-          ∙ ap (λ bound. offered w folders r (names_of parts) bound place.kind) c.in_ok-bound.ensures)));
+          ∙ ap (λ named. offered w roots r (map name_view named) (texts c.as_slice-2.result.now) place.kind) c.as_slice.ensures.value
+          ∙ ap (λ named. offered w roots r named (texts c.as_slice-2.result.now) place.kind) c.in_ok-named.ensures
+          ∙ ap (λ bound. offered w roots r (names_of parts) (texts bound) place.kind) c.as_slice-2.ensures.value
+          ∙ ap (λ bound. offered w roots r (names_of parts) bound place.kind) c.in_ok-bound.ensures)));
       before = c.put_items.ensures.before;
     }

@@ -2,4 +2,4 @@ use Rattle.tera_server.proofs.AnswerLemmas.{offered_parameter}
 use Rattle.tera_server.proofs.laws.offered_parameters_are_defined.Goals as goal
 
 pub returns : goal.returns
-returns c = λ w folders r named bound n call there. offered_parameter w folders r named bound n call there
+returns c = λ w roots r named bound n call there. offered_parameter w roots r named bound n call there

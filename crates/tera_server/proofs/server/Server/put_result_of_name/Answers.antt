@@ -14,7 +14,7 @@ returns-in-None-clause-tokens c =
     and_so c.null.result c.null.ensures.ok
     (λ h. (
       null,
-      subst (λ request. IsResultOfName request params (option_map name_view c.args.name.now) s null) (sym c.in-References.is)
+      subst (λ request. IsResultOfName request params c.args.file.now (option_map name_view c.args.name.now) s null) (sym c.in-References.is)
           (subst (λ n. AreListed (declares params) (option_map name_view n) s null) (sym c.in-None.is) refl),
       h,
     ))

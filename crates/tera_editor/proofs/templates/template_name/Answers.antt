@@ -1,0 +1,11 @@
+use Rattle.std.proofs.Common.{◌∙◌, map, option_map, string_bytes, sym, ap}
+use Rattle.tera_editor.specs.Templates.{name_by}
+use Rattle.tera_editor.proofs.templates.template_name.Goals as goal
+
+pub returns-in-Some : goal.returns-in-Some
+returns-in-Some c =
+    c.path_below.ensures ∙ ap (λ site. name_by (option_map (λ root. root.now) site) (map string_bytes c.args.roots.folders.now) c.args.file.now) (sym c.in-Some.is)
+
+pub returns-in-None : goal.returns-in-None
+returns-in-None c =
+    c.name_in_first.ensures ∙ ap (λ site. name_by (option_map (λ root. root.now) site) (map string_bytes c.args.roots.folders.now) c.args.file.now) (sym c.in-None.is)
