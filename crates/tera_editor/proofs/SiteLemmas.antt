@@ -1,19 +1,20 @@
 -- Sites of folders after a step.
-use Rattle.std.proofs.Common.{◌≡◌, ◌≢◌, ◌∙◌, ◌<◌, ◌≤◌, ◌+◌, ◌++◌, ◌∷◌, [], ◌⊎◌, inl, inr, ◌||◌, ◌&&◌, ℕ, zero, suc, List, length, get_or, set, map, take, filter, Bool, true, false, not, cond, if◌then◌else◌, Option, None, Some, Result, Ok, Err, IfOk, String, string_bytes, Vec, refl, sym, ap, subst, append_assoc, arith}
-use Rattle.std.specs.BTreeMap.{get_by_text, is_at}
+use Rattle.std.proofs.Common.{◌≡◌, ◌≢◌, ◌∙◌, ◌<◌, ◌≤◌, ◌+◌, ◌++◌, ◌∷◌, [], ◌⊎◌, inl, inr, ◌||◌, ◌&&◌, ℕ, zero, suc, List, length, get_or, set, map, take, filter, Bool, true, false, not, cond, if◌then◌else◌, Option, None, Some, is_some, Result, Ok, Err, IfOk, String, string_bytes, Vec, refl, sym, ap, subst, append_assoc, arith}
+use Rattle.std.specs.BTreeMap.{IsOrdered, get_by_text, is_at}
 use Rattle.std.specs.BTreeSet.{BTreeSet, UpdatesBy}
 use Rattle.std.specs.Cmp.Lexicographic.{slice_cmp}
-use Rattle.std.specs.List.{AllByRecursion, find, list_any}
-use Rattle.std.specs.Map.{lookup}
+use Rattle.std.specs.List.{AllByRecursion, IsDistinct, find, list_any}
+use Rattle.std.specs.Map.{keys_of, lookup}
 use Rattle.std.specs.Option.{option_map}
-use Rattle.std.specs.Ordering.{nat_cmp}
+use Rattle.std.specs.Ordering.{eq_by_cmp, nat_cmp}
 use Rattle.std.specs.Str.{bytes_eq}
 use Rattle.std.specs.String.{string_cmp}
 use Rattle.std.specs.declared.alloc.Global.{Global}
 use Rattle.std.proofs.lemmas.Bool.{cases_eq, cases_lt, false≢true}
 use Rattle.std.proofs.lemmas.List.{append-nil, get_or-set_same, get_or-set_other, get_or_read, length-set, map-append, set-get_or, take_more}
+use Rattle.std.proofs.lemmas.Map.Keys.{IsDistinct-from_sorted, IsDistinct-head, IsDistinct-tail}
 use Rattle.std.proofs.lemmas.Map.Made.{lookup-map_values}
-use Rattle.std.proofs.lemmas.Map.Text.{btree_map_updates_text, btree_set_updates_text}
+use Rattle.std.proofs.lemmas.Map.Text.{btree_map_updates_text, btree_set_updates_text, is_eq-slice_cmp}
 use Rattle.std.proofs.lemmas.Slice.Eq.{bytes_eq-Decides}
 use Rattle.tera_workspace.specs.Definitions.{AreRead}
 use Rattle.tera_workspace.specs.Names.{is_among}
@@ -24,7 +25,7 @@ use Rattle.tera_workspace.specs.Sites.{FitsWorkspace, around_named}
 use Rattle.tera_workspace.specs.Workspaces.{IsKept}
 use Rattle.tera_workspace.specs.declared.workspace.Workspace.{Workspace}
 use Rattle.tera_workspace.proofs.NameSets.{among_append}
-use Rattle.tera_editor.specs.Sites.{AddsRenewed, AreAbsent, AreAround, AreFittingBelow, AreGiven, HasOthers, IsGiven, IsNumbered, IsPresenceIf, IsRenewed, IsSaid, NoneBefore, Presences, UsedVal, asked_again, has_folder, is_absent_in, is_below, is_there_as, presence_in, renewed_of}
+use Rattle.tera_editor.specs.Sites.{AddsRenewed, AreAbsent, AreAround, AreFittingBelow, AreGiven, AreStillKnown, HasOthers, IsGiven, IsNumbered, IsPresenceAt, IsPresenceIf, IsRenewed, IsSaid, KeepsKnown, NoneBefore, Presences, SitedVal, StaysKnown, UsedVal, asked_again, has_folder, is_absent_in, is_below, is_there_as, is_there_in, new_presence, presence_in, renewed_of, sited, with_nothing_known}
 use Rattle.tera_editor.specs.declared.sites.FolderSite.{FolderSite}
 use Rattle.tera_editor.specs.declared.sites.Presence.{Presence}
 use Rattle.tera_editor.specs.declared.sites.Sites.{Sites}
@@ -107,28 +108,75 @@ around_at ms bs s t u k y within is one here = record {
         let old = get_or s.all.items m d in
         subst (λ z. IsRenewed (ms ++ bs) old z) (sym (get_or-set_other t.all.items k m y d e)) (renewed_more ms bs old (get_or t.all.items m d) (one.each m d below))
 
+-- ---- what is known of names stays
+
+pub known_same : (m : Presences) → AreStillKnown m m
+known_same m n = inl refl
+
+known_twice : (a b c : Option Presence) → StaysKnown a b → StaysKnown b c → StaysKnown a c
+known_twice a b c (inl e) (inl f) = inl (f ∙ e)
+known_twice a b c (inl e) (inr f) = inr (sym e ∙ f.0, f.1)
+known_twice a b c (inr e) (inl f) = inr (e.0, f ∙ e.1)
+known_twice a b c (inr e) (inr f) = inr (e.0, f.1)
+
+pub known_on : (m n p : Presences) → AreStillKnown m n → AreStillKnown n p → AreStillKnown m p
+known_on m n p one other q = known_twice (get_by_text m q) (get_by_text n q) (get_by_text p q) (one q) (other q)
+
+pub keeps_same : (s : Sites) → KeepsKnown s s
+keeps_same s k d within = known_same (get_or s.all.items k d).presences
+
+keeps_on : (s t u : Sites) → length t.all.items ≡ length s.all.items → KeepsKnown s t → KeepsKnown t u → KeepsKnown s u
+keeps_on s t u as_many one other k d within =
+    known_on (get_or s.all.items k d).presences (get_or t.all.items k d).presences (get_or u.all.items k d).presences (one k d within)
+    (other k d (subst (λ m. k < m) (sym as_many) within))
+
+-- .. of the same sites
+keeps_kept : (s t : Sites) → t.all.items ≡ s.all.items → KeepsKnown s t
+keeps_kept s t same k d within =
+    subst (λ xs. AreStillKnown (get_or s.all.items k d).presences (get_or xs k d).presences) (sym same) (known_same (get_or s.all.items k d).presences)
+
+-- one of the sites is another
+pub keeps_at : (s t u : Sites) (k : ℕ) (y : FolderSite) → k < length t.all.items → u.all.items ≡ set t.all.items k y → KeepsKnown s t
+    → ((d : FolderSite) → AreStillKnown (get_or t.all.items k d).presences y.presences) → KeepsKnown s u
+keeps_at s t u k y within is one here m d below =
+    subst (λ xs. AreStillKnown (get_or s.all.items m d).presences (get_or xs m d).presences) (sym is) (by (cases_eq m k))
+  where
+    old : Presences
+    old = (get_or s.all.items m d).presences
+
+    by : (m ≡ k) ⊎ (m ≢ k) → AreStillKnown old (get_or (set t.all.items k y) m d).presences
+    by (inl e) =
+        subst (λ (z : FolderSite). AreStillKnown old z.presences) (sym (ap (λ i. get_or (set t.all.items k y) i d) e ∙ get_or-set_same t.all.items k y d within))
+        (known_on old (get_or t.all.items m d).presences y.presences (one m d below)
+        (subst (λ i. AreStillKnown (get_or t.all.items i d).presences y.presences) (sym e) (here d)))
+    by (inr e) = subst (λ (z : FolderSite). AreStillKnown old z.presences) (sym (get_or-set_other t.all.items k m y d e)) (one m d below)
+
 -- ---- names that are to be published
 
-pub adds_none : (names : List (List ℕ)) (s t : Sites) → renewed_of t ≡ renewed_of s → AreAround [] s t → AddsRenewed names names s t
-adds_none names s t same around = record { more = []; added = ap (λ ns. names ++ ns) same ∙ sym (append-nil (names ++ renewed_of s)); around = around }
+pub adds_none : (names : List (List ℕ)) (s t : Sites) → renewed_of t ≡ renewed_of s → AreAround [] s t → KeepsKnown s t → AddsRenewed names names s t
+adds_none names s t same around known =
+    record { more = []; added = ap (λ ns. names ++ ns) same ∙ sym (append-nil (names ++ renewed_of s)); around = around; known = known }
 
 pub adds_on : (ms bs cs : List (List ℕ)) (s t u : Sites) → AddsRenewed ms bs s t → AddsRenewed bs cs t u → AddsRenewed ms cs s u
 adds_on ms bs cs s t u one other = record {
   more = one.more ++ other.more;
   added = other.added ∙ ap (λ ns. ns ++ other.more) one.added ∙ append_assoc (ms ++ renewed_of s) one.more other.more;
   around = around_on one.more other.more s t u one.around other.around;
+  known = keeps_on s t u one.around.as_many one.known other.known;
 }
 
 -- one site is another, and the names that were found by that are put after the others, or are still to be put there
 pub adds_at : (ms bs cs ns : List (List ℕ)) (s t u : Sites) (k : ℕ) (y : FolderSite) → AddsRenewed ms bs s t → renewed_of t ≡ [] → k < length t.all.items →
-    u.all.items ≡ set t.all.items k y → ((d : FolderSite) → IsRenewed ns (get_or t.all.items k d) y) → cs ++ renewed_of u ≡ bs ++ ns → AddsRenewed ms cs s u
-adds_at ms bs cs ns s t u k y one none within is here put = record {
+    u.all.items ≡ set t.all.items k y → ((d : FolderSite) → IsRenewed ns (get_or t.all.items k d) y) → ((d : FolderSite) → y.presences ≡ (get_or t.all.items k d).presences)
+    → cs ++ renewed_of u ≡ bs ++ ns → AddsRenewed ms cs s u
+adds_at ms bs cs ns s t u k y one none within is here known put = record {
   more = one.more ++ ns;
   added =
       put
       ∙ ap (λ xs. xs ++ ns) (sym (append-nil bs) ∙ ap (λ xs. bs ++ xs) (sym none) ∙ one.added)
       ∙ append_assoc (ms ++ renewed_of s) one.more ns;
   around = around_at one.more ns s t u k y within is one.around here;
+  known = keeps_at s t u k y within is one.known (λ d. subst (λ m. AreStillKnown (get_or t.all.items k d).presences m) (sym (known d)) (known_same (get_or t.all.items k d).presences));
 }
 
 -- none of the sites so far is of a folder, and the next one is not
@@ -146,11 +194,12 @@ first_of folder xs k x within is same before =
 
 -- ---- the site of a folder
 
-abbrev pub site_of : FolderSite → KeptSiteVal
-site_of x = x.site
-
 abbrev pub site_found : List ℕ → List FolderSite → Option KeptSiteVal
-site_found folder xs = option_map site_of (find (has_folder folder) xs)
+site_found folder xs = option_map (λ x. x.site) (find (has_folder folder) xs)
+
+-- .. and what is known of names there
+abbrev pub sited_found : List ℕ → List FolderSite → Option SitedVal
+sited_found folder xs = option_map sited (find (has_folder folder) xs)
 
 same_folder : (x : FolderSite) (folder f : List ℕ) → has_folder folder x ≡ true → has_folder f x ≡ bytes_eq folder f
 same_folder x folder f e = ap (λ n. bytes_eq n f) ((bytes_eq-Decides (string_bytes x.folder) folder).0 e)
@@ -167,19 +216,19 @@ differ x folder f one other = by (bytes_eq folder f) refl
     by false e = refl
 
 found_by : (f : List ℕ) (x : FolderSite) (rest : Option FolderSite) (b : Bool) → has_folder f x ≡ b →
-    option_map site_of (cond (has_folder f x) (Some x) rest) ≡ cond b (Some x.site) (option_map site_of rest)
-found_by f x rest true e = ap (λ b. option_map site_of (cond b (Some x) rest)) e
-found_by f x rest false e = ap (λ b. option_map site_of (cond b (Some x) rest)) e
+    option_map sited (cond (has_folder f x) (Some x) rest) ≡ cond b (Some (sited x)) (option_map sited rest)
+found_by f x rest true e = ap (λ b. option_map sited (cond b (Some x) rest)) e
+found_by f x rest false e = ap (λ b. option_map sited (cond b (Some x) rest)) e
 
 -- the first of a folder is another
 pub set_found : (f folder : List ℕ) (xs : List FolderSite) (k : ℕ) (y : FolderSite) → IsNumbered folder xs k → string_bytes y.folder ≡ folder →
-    site_found f (set xs k y) ≡ cond (bytes_eq folder f) (Some y.site) (site_found f xs)
+    sited_found f (set xs k y) ≡ cond (bytes_eq folder f) (Some (sited y)) (sited_found f xs)
 set_found f folder [] k y h e = absurd (omega (arith, h.within))
 set_found f folder (x ∷ xs) zero y h e =
     found_by f y (find (has_folder f) xs) (bytes_eq folder f) (ap (λ n. bytes_eq n f) e)
     ∙ by (bytes_eq folder f) (same_folder x folder f (h.is x))
   where
-    by : (b : Bool) → has_folder f x ≡ b → cond b (Some y.site) (site_found f xs) ≡ cond b (Some y.site) (site_found f (x ∷ xs))
+    by : (b : Bool) → has_folder f x ≡ b → cond b (Some (sited y)) (sited_found f xs) ≡ cond b (Some (sited y)) (sited_found f (x ∷ xs))
     by true is = refl
     by false is = sym (found_by f x (find (has_folder f) xs) false is)
 set_found f folder (x ∷ xs) (suc k) y h e = by (has_folder f x) refl (set_found f folder xs k y rest e)
@@ -187,40 +236,40 @@ set_found f folder (x ∷ xs) (suc k) y h e = by (has_folder f x) refl (set_foun
     rest : IsNumbered folder xs k
     rest = record { within = omega (arith, h.within); is = λ d. h.is d; first = λ m d below. h.first (suc m) d (omega (arith, below)) }
 
-    by : (b : Bool) → has_folder f x ≡ b → site_found f (set xs k y) ≡ cond (bytes_eq folder f) (Some y.site) (site_found f xs)
-        → site_found f (x ∷ set xs k y) ≡ cond (bytes_eq folder f) (Some y.site) (site_found f (x ∷ xs))
+    by : (b : Bool) → has_folder f x ≡ b → sited_found f (set xs k y) ≡ cond (bytes_eq folder f) (Some (sited y)) (sited_found f xs)
+        → sited_found f (x ∷ set xs k y) ≡ cond (bytes_eq folder f) (Some (sited y)) (sited_found f (x ∷ xs))
     by true is others =
         found_by f x (find (has_folder f) (set xs k y)) true is
-        ∙ sym (ap (λ c. cond c (Some y.site) (site_found f (x ∷ xs))) (differ x folder f (h.first zero x (omega arith)) is) ∙ found_by f x (find (has_folder f) xs) true is)
+        ∙ sym (ap (λ c. cond c (Some (sited y)) (sited_found f (x ∷ xs))) (differ x folder f (h.first zero x (omega arith)) is) ∙ found_by f x (find (has_folder f) xs) true is)
     by false is others =
         found_by f x (find (has_folder f) (set xs k y)) false is
         ∙ others
-        ∙ ap (cond (bytes_eq folder f) (Some y.site)) (sym (found_by f x (find (has_folder f) xs) false is))
+        ∙ ap (cond (bytes_eq folder f) (Some (sited y))) (sym (found_by f x (find (has_folder f) xs) false is))
 
 -- one more, of a folder that none of them is of
 pub push_found : (f folder : List ℕ) (xs : List FolderSite) (y : FolderSite) → NoneBefore folder xs (length xs) → string_bytes y.folder ≡ folder →
-    site_found f (xs ++ y ∷ []) ≡ cond (bytes_eq folder f) (Some y.site) (site_found f xs)
+    sited_found f (xs ++ y ∷ []) ≡ cond (bytes_eq folder f) (Some (sited y)) (sited_found f xs)
 push_found f folder [] y none e = found_by f y None (bytes_eq folder f) (ap (λ n. bytes_eq n f) e)
 push_found f folder (x ∷ xs) y none e = by (has_folder f x) refl (push_found f folder xs y (λ m d below. none (suc m) d (omega (arith, below))) e)
   where
-    by : (b : Bool) → has_folder f x ≡ b → site_found f (xs ++ y ∷ []) ≡ cond (bytes_eq folder f) (Some y.site) (site_found f xs)
-        → site_found f (x ∷ (xs ++ y ∷ [])) ≡ cond (bytes_eq folder f) (Some y.site) (site_found f (x ∷ xs))
+    by : (b : Bool) → has_folder f x ≡ b → sited_found f (xs ++ y ∷ []) ≡ cond (bytes_eq folder f) (Some (sited y)) (sited_found f xs)
+        → sited_found f (x ∷ (xs ++ y ∷ [])) ≡ cond (bytes_eq folder f) (Some (sited y)) (sited_found f (x ∷ xs))
     by true is others =
         found_by f x (find (has_folder f) (xs ++ y ∷ [])) true is
-        ∙ sym (ap (λ c. cond c (Some y.site) (site_found f (x ∷ xs))) (differ x folder f (none zero x (omega arith)) is) ∙ found_by f x (find (has_folder f) xs) true is)
+        ∙ sym (ap (λ c. cond c (Some (sited y)) (sited_found f (x ∷ xs))) (differ x folder f (none zero x (omega arith)) is) ∙ found_by f x (find (has_folder f) xs) true is)
     by false is others =
         found_by f x (find (has_folder f) (xs ++ y ∷ [])) false is
         ∙ others
-        ∙ ap (cond (bytes_eq folder f) (Some y.site)) (sym (found_by f x (find (has_folder f) xs) false is))
+        ∙ ap (cond (bytes_eq folder f) (Some (sited y))) (sym (found_by f x (find (has_folder f) xs) false is))
 
 -- those of a folder are gone
 abbrev pub is_other_than : List ℕ → FolderSite → Bool
 is_other_than folder x = not (has_folder folder x)
 
-pub gone_found : (f folder : List ℕ) (xs : List FolderSite) → site_found f (filter (is_other_than folder) xs) ≡ cond (bytes_eq folder f) None (site_found f xs)
+pub gone_found : (f folder : List ℕ) (xs : List FolderSite) → sited_found f (filter (is_other_than folder) xs) ≡ cond (bytes_eq folder f) None (sited_found f xs)
 gone_found f folder [] = by (bytes_eq folder f)
   where
-    by : (b : Bool) → ◌≡◌ {A = Option KeptSiteVal} None (cond b None None)
+    by : (b : Bool) → ◌≡◌ {A = Option SitedVal} None (cond b None None)
     by true = refl
     by false = refl
 gone_found f folder (x ∷ xs) = by (has_folder folder x) refl (has_folder f x) refl (gone_found f folder xs)
@@ -228,24 +277,28 @@ gone_found f folder (x ∷ xs) = by (has_folder folder x) refl (has_folder f x) 
     rest : Bool → List FolderSite
     rest b = cond (not b) (x ∷ filter (is_other_than folder) xs) (filter (is_other_than folder) xs)
 
-    by : (b : Bool) → has_folder folder x ≡ b → (c : Bool) → has_folder f x ≡ c → site_found f (filter (is_other_than folder) xs) ≡ cond (bytes_eq folder f) None (site_found f xs)
-        → site_found f (rest (has_folder folder x)) ≡ cond (bytes_eq folder f) None (site_found f (x ∷ xs))
+    by : (b : Bool) → has_folder folder x ≡ b → (c : Bool) → has_folder f x ≡ c → sited_found f (filter (is_other_than folder) xs) ≡ cond (bytes_eq folder f) None (sited_found f xs)
+        → sited_found f (rest (has_folder folder x)) ≡ cond (bytes_eq folder f) None (sited_found f (x ∷ xs))
     by true is true then_is others =
-        ap (λ b. site_found f (rest b)) is ∙ others
-        ∙ ap (λ b. cond b None (site_found f xs)) (sym (same_folder x folder f is) ∙ then_is)
-        ∙ sym (ap (λ b. cond b None (site_found f (x ∷ xs))) (sym (same_folder x folder f is) ∙ then_is))
+        ap (λ b. sited_found f (rest b)) is ∙ others
+        ∙ ap (λ b. cond b None (sited_found f xs)) (sym (same_folder x folder f is) ∙ then_is)
+        ∙ sym (ap (λ b. cond b None (sited_found f (x ∷ xs))) (sym (same_folder x folder f is) ∙ then_is))
     by true is false then_is others =
-        ap (λ b. site_found f (rest b)) is ∙ others
+        ap (λ b. sited_found f (rest b)) is ∙ others
         ∙ ap (cond (bytes_eq folder f) None) (sym (found_by f x (find (has_folder f) xs) false then_is))
     by false is true then_is others =
-        ap (λ b. site_found f (rest b)) is
+        ap (λ b. sited_found f (rest b)) is
         ∙ found_by f x (find (has_folder f) (filter (is_other_than folder) xs)) true then_is
-        ∙ sym (ap (λ b. cond b None (site_found f (x ∷ xs))) (differ x folder f is then_is) ∙ found_by f x (find (has_folder f) xs) true then_is)
+        ∙ sym (ap (λ b. cond b None (sited_found f (x ∷ xs))) (differ x folder f is then_is) ∙ found_by f x (find (has_folder f) xs) true then_is)
     by false is false then_is others =
-        ap (λ b. site_found f (rest b)) is
+        ap (λ b. sited_found f (rest b)) is
         ∙ found_by f x (find (has_folder f) (filter (is_other_than folder) xs)) false then_is
         ∙ others
         ∙ ap (cond (bytes_eq folder f) None) (sym (found_by f x (find (has_folder f) xs) false then_is))
+
+-- a new one
+pub sited_new : (x : FolderSite) (root : List ℕ) → x.site ≡ no_site root [] → x.presences.entries ≡ [] → sited x ≡ with_nothing_known (no_site root [])
+sited_new x root site none = ap (λ s. record { site = s; known = x.presences.entries }) site ∙ ap (λ es. record { site = no_site root []; known = es }) none
 
 -- ---- what is so of each site
 
@@ -314,6 +367,7 @@ pub record RenewedSoFar (end : ℕ) (w : Workspace) (ms bs : List (List ℕ)) (s
 pub record IsNext (k : ℕ) (w : Workspace) (ns : List (List ℕ)) (xs : List FolderSite) (y : FolderSite) : Type 0 where
   pub within : k < length xs
   pub renewed : (d : FolderSite) → IsRenewed ns (get_or xs k d) y
+  pub known : (d : FolderSite) → y.presences ≡ (get_or xs k d).presences
   pub given : ((d : FolderSite) → IsGiven (get_or xs k d)) → IsGiven y
   pub others : ((d : FolderSite) → IsGiven (get_or xs k d)) → HasOthers y
   pub fits : IsKept w → AreRead w → FitsWorkspace y.site w
@@ -321,7 +375,7 @@ pub record IsNext (k : ℕ) (w : Workspace) (ns : List (List ℕ)) (xs : List Fo
 pub so_far_next : (k : ℕ) (w : Workspace) (ms bs cs ns : List (List ℕ)) (s t u : Sites) (y : FolderSite) → RenewedSoFar k w ms bs s t → IsNext k w ns t.all.items y
     → u.all.items ≡ set t.all.items k y → cs ++ renewed_of u ≡ bs ++ ns → renewed_of u ≡ [] → RenewedSoFar (k + 1) w ms cs s u
 so_far_next k w ms bs cs ns s t u y h n is put none = record {
-  adds = adds_at ms bs cs ns s t u k y h.adds h.renewed n.within is n.renewed put;
+  adds = adds_at ms bs cs ns s t u k y h.adds h.renewed n.within is n.renewed n.known put;
   renewed = none;
   given = λ g. subst (λ xs. EachBelow IsGiven (length xs) xs) (sym is) (set_all IsGiven t.all.items k y n.within (h.given g) (n.given (λ d. h.given g k d n.within)));
   others = λ g. subst (EachBelow HasOthers (k + 1)) (sym is) (set_below HasOthers t.all.items k y n.within (h.others g) (n.others (λ d. h.given g k d n.within)));
@@ -334,6 +388,7 @@ so_far_next k w ms bs cs ns s t u y h n is put none = record {
 -- .. of which it is assumed that names are there
 pub record AssumedSoFar (end : ℕ) (some : Bool) (s t : Sites) : Type 0 where
   pub around : AreAround [] s t
+  pub known : KeepsKnown s t
   pub given : AreGiven s → AreGiven t
   pub renewed : t.renewed ≡ s.renewed
   pub same : some ≡ false → t.all.items ≡ s.all.items
@@ -358,6 +413,7 @@ pub record AskedSoFar (end : ℕ) (s t : Sites) : Type 0 where
 -- .. of the names of one site so far none was assumed, unless some was
 pub record IsAssumedSoFar (ns : List (List ℕ)) (some : Bool) (m n : Presences) (was now : Bool) : Type 0 where
   pub none : some ≡ false → (n ≡ m) × (now ≡ was)
+  pub known : AreStillKnown m n
   pub said : some ≡ false → AreAbsent ns n
   pub news : some ≡ true → now ≡ true
 
@@ -382,7 +438,7 @@ put_not names more now none is same = ap (λ xs. map string_bytes xs ++ map stri
 
 -- the same sites, when such names moved
 pub adds_moved : (ms cs : List (List ℕ)) (s u : Sites) → u.all.items ≡ s.all.items → cs ++ renewed_of u ≡ ms ++ renewed_of s → AddsRenewed ms cs s u
-adds_moved ms cs s u same put = record { more = []; added = put ∙ sym (append-nil (ms ++ renewed_of s)); around = around_kept s u same }
+adds_moved ms cs s u same put = record { more = []; added = put ∙ sym (append-nil (ms ++ renewed_of s)); around = around_kept s u same; known = keeps_kept s u same }
 
 -- before the first site is found again
 pub so_far_begun : (w : Workspace) (ms cs : List (List ℕ)) (s u : Sites) → u.all.items ≡ s.all.items → cs ++ renewed_of u ≡ ms ++ renewed_of s → renewed_of u ≡ [] → RenewedSoFar 0 w ms cs s u
@@ -402,6 +458,7 @@ pub next_of : (k : ℕ) (w : Workspace) (ns : List (List ℕ)) (xs : List Folder
 next_of k w ns xs x y within is same root around given others fits = record {
   within = within;
   renewed = λ d. subst (λ z. IsRenewed ns z y) (get_or_read xs k x within is d) (record { folder = ap (λ (z : FolderSite). z.folder) same; root = root; same = around });
+  known = λ d. ap (λ (z : FolderSite). z.presences) same ∙ ap (λ (z : FolderSite). z.presences) (get_or_read xs k x within is d);
   given = λ g. given (subst IsGiven (sym is) (g x));
   others = λ g. others (subst IsGiven (sym is) (g x));
   fits = fits;
@@ -414,7 +471,8 @@ pub adds_not : (k : ℕ) (w : Workspace) (ms bs cs ns : List (List ℕ)) (s t u 
     → u.all.items ≡ set t.all.items k y → cs ++ renewed_of u ≡ bs ++ ns → AddsRenewed ms cs s u
 adds_not k w ms bs cs ns s t u x y h within is same root around then_is put =
     adds_at ms bs cs ns s t u k y h.adds h.renewed within then_is
-    (λ d. subst (λ z. IsRenewed ns z y) (get_or_read t.all.items k x within is d) (record { folder = ap (λ (z : FolderSite). z.folder) same; root = root; same = around })) put
+    (λ d. subst (λ z. IsRenewed ns z y) (get_or_read t.all.items k x within is d) (record { folder = ap (λ (z : FolderSite). z.folder) same; root = root; same = around }))
+    (λ d. ap (λ (z : FolderSite). z.presences) same ∙ ap (λ (z : FolderSite). z.presences) (get_or_read t.all.items k x within is d)) put
 
 -- one of them is another, which was given its others if that was so of it before
 pub given_at : (s t u : Sites) (k : ℕ) (x y : FolderSite) → (AreGiven s → AreGiven t) → k < length t.all.items → x ≡ get_or t.all.items k x → u.all.items ≡ set t.all.items k y
@@ -428,16 +486,23 @@ false_true : {A : Type 0} → false ≡ true → A
 false_true e = absurd (false≢true e)
 
 pub assumed_none : (m : Presences) (was : Bool) → IsAssumedSoFar [] false m m was was
-assumed_none m was = record { none = λ e. (refl, refl); said = λ e n h. false_true h; news = λ e. false_true e }
+assumed_none m was = record { none = λ e. (refl, refl); known = known_same m; said = λ e n h. false_true h; news = λ e. false_true e }
 
 -- one was
-pub assumed_some : (ns : List (List ℕ)) (some was now : Bool) (m n : Presences) → some ≡ true → now ≡ true → IsAssumedSoFar ns some m n was now
-assumed_some ns some was now m n is news = record { none = λ e. false_true (sym e ∙ is); said = λ e. false_true (sym e ∙ is); news = λ e. news }
+pub assumed_some : (ns bs : List (List ℕ)) (some some_now was news now : Bool) (m n p : Presences) → some_now ≡ true → now ≡ true → AreStillKnown n p
+    → IsAssumedSoFar ns some m n was news → IsAssumedSoFar bs some_now m p was now
+assumed_some ns bs some some_now was news now m n p is then_is stays h = record {
+  none = λ e. false_true (sym e ∙ is);
+  known = known_on m n p h.known stays;
+  said = λ e. false_true (sym e ∙ is);
+  news = λ e. then_is;
+}
 
 -- .. or it was said of one more that there is none
 pub assumed_said : (ns : List (List ℕ)) (name : List ℕ) (some was now : Bool) (m n : Presences) → is_absent_in n name ≡ true → IsAssumedSoFar ns some m n was now → IsAssumedSoFar (ns ++ name ∷ []) some m n was now
 assumed_said ns name some was now m n absent h = record {
   none = h.none;
+  known = h.known;
   said = λ e q among. elim (among_either q ns (name ∷ []) among) [
     | inl before ↦ h.said e q before
     | inr here ↦ subst (λ k. is_absent_in n k ≡ true) ((bytes_eq-Decides name q).0 (is_head q name here)) absent
@@ -470,12 +535,13 @@ assumed_given x p news (inr same) g = subst IsGiven (sym (same_site x p news sam
 
 -- one more site of which names were assumed
 pub assumed_next : (k : ℕ) (some more now : Bool) (s t u : Sites) (x y : FolderSite) → AssumedSoFar k some s t → k < length t.all.items → x ≡ get_or t.all.items k x → u.all.items ≡ set t.all.items k y
-    → u.renewed ≡ t.renewed → y ≡ record x { presences = y.presences; has_news = y.has_news } → (IsGiven x → IsGiven y) → (more ≡ false → y ≡ x) → (more ≡ false → IsSaid y)
+    → u.renewed ≡ t.renewed → y ≡ record x { presences = y.presences; has_news = y.has_news } → AreStillKnown x.presences y.presences → (IsGiven x → IsGiven y) → (more ≡ false → y ≡ x) → (more ≡ false → IsSaid y)
     → now ≡ (if more then true else some) → AssumedSoFar (k + 1) now s u
-assumed_next k some more now s t u x y h within is then_is renewed same given none said now_is = record {
+assumed_next k some more now s t u x y h within is then_is renewed same known given none said now_is = record {
   around = around_at [] [] s t u k y within then_is h.around
       (λ d. subst (λ z. IsRenewed [] z y) (get_or_read t.all.items k x within is d)
       (record { folder = ap (λ (z : FolderSite). z.folder) same; root = ap (λ (z : FolderSite). z.site.root) same; same = λ n e. ap (λ (z : FolderSite). around_named n z.site.documents) same }));
+  known = keeps_at s t u k y within then_is h.known (λ d. subst (λ (z : FolderSite). AreStillKnown z.presences y.presences) (get_or_read t.all.items k x within is d) known);
   given = given_at s t u k x y h.given within is then_is given;
   renewed = renewed ∙ h.renewed;
   same = λ e.
@@ -536,6 +602,81 @@ pub asked_there : (q : List ℕ) (es : List (String Global × Presence)) → lis
 asked_there q [] = refl
 asked_there q (e ∷ es) = ap (λ b. is_there_as q e || b) (asked_there q es)
 
+-- there may be one of a name if that is known of it
+never : (b : Bool) → (b && false) ≡ false
+never true = refl
+never false = refl
+
+abbrev pub is_key : (q : List ℕ) → String Global → Bool
+is_key q k = is_at (λ j. slice_cmp nat_cmp q (string_bytes j)) k
+
+none_there : (q : List ℕ) (k : String Global) (es : List (String Global × Presence)) → q ≡ string_bytes k → AllByRecursion (λ j. eq_by_cmp string_cmp k j ≡ false) (keys_of es) → list_any (is_there_as q) es ≡ false
+none_there q k [] is apart = refl
+none_there q k ((j, p) ∷ es) is apart =
+    ap (λ b. (p.is_there && b) || list_any (is_there_as q) es) (by (bytes_eq (string_bytes j) q) refl)
+    ∙ ap (λ b. b || list_any (is_there_as q) es) (never p.is_there) ∙ none_there q k es is apart.1
+  where
+    by : (b : Bool) → bytes_eq (string_bytes j) q ≡ b → b ≡ false
+    by true e =
+        absurd (false≢true (sym apart.0 ∙ is_eq-slice_cmp (string_bytes k) (string_bytes j)
+        ∙ (bytes_eq-Decides (string_bytes k) (string_bytes j)).1 (sym ((bytes_eq-Decides (string_bytes j) q).0 e ∙ is))))
+    by false e = refl
+
+pub there_by : (q : List ℕ) (es : List (String Global × Presence)) → IsDistinct (eq_by_cmp string_cmp) (keys_of es) → list_any (is_there_as q) es ≡ is_there_in (lookup (is_key q) es)
+there_by q [] distinct = refl
+there_by q ((k, p) ∷ es) distinct =
+    by (is_key q k) (is_eq-slice_cmp q (string_bytes k)) (there_by q es (IsDistinct-tail (eq_by_cmp string_cmp) k (keys_of es) distinct))
+  where
+    rest : Bool
+    rest = list_any (is_there_as q) es
+
+    none : q ≡ string_bytes k → rest ≡ false
+    none is = none_there q k es is (IsDistinct-head (eq_by_cmp string_cmp) k (keys_of es) distinct)
+
+    here : (b : Bool) → ((b && true) || false) ≡ b
+    here true = refl
+    here false = refl
+
+    apart : (b : Bool) → bytes_eq (string_bytes k) q ≡ b → false ≡ bytes_eq q (string_bytes k) → b ≡ false
+    apart true e other = absurd (false≢true (other ∙ (bytes_eq-Decides q (string_bytes k)).1 (sym ((bytes_eq-Decides (string_bytes k) q).0 e))))
+    apart false e other = refl
+
+    by : (b : Bool) → b ≡ bytes_eq q (string_bytes k) → rest ≡ is_there_in (lookup (is_key q) es)
+        → ((p.is_there && bytes_eq (string_bytes k) q) || rest) ≡ is_there_in (cond b (Some p) (lookup (is_key q) es))
+    by true is f =
+        let same : q ≡ string_bytes k = (bytes_eq-Decides q (string_bytes k)).0 (sym is) in
+        ap (λ b. (p.is_there && b) || rest) ((bytes_eq-Decides (string_bytes k) q).1 (sym same)) ∙ ap (λ b. (p.is_there && true) || b) (none same) ∙ here p.is_there
+    by false is f =
+        ap (λ b. (p.is_there && b) || rest) (apart (bytes_eq (string_bytes k) q) refl is) ∙ ap (λ b. b || rest) (never p.is_there) ∙ f
+
+there_in : (m : Presences) → IsOrdered string_cmp m → (q : List ℕ) → list_any (is_there_as q) m.entries ≡ is_there_in (get_by_text m q)
+there_in m ordered q = there_by q m.entries (IsDistinct-from_sorted string_cmp (keys_of m.entries) ordered)
+
+-- what is said of a name is not news if there might be a file as before
+pub said_given : (name : List ℕ) (x y : FolderSite) (there : Bool) → IsOrdered string_cmp x.presences → IsOrdered string_cmp y.presences → y.site ≡ x.site
+    → IsPresenceAt name (Some (record { is_there = there; is_due = false })) x y → (y.has_news ≡ false → (x.has_news ≡ false) × (is_there_in (presence_in x name) ≡ there)) → IsGiven x → IsGiven y
+said_given name x y there before after site set no_news g news q =
+    ap (λ (s : KeptSiteVal). is_one_of s.others q) site
+    ∙ g (no_news news).0 q
+    ∙ there_in x.presences before q
+    ∙ by (bytes_eq name q) refl
+    ∙ ap is_there_in (sym (set q))
+    ∙ sym (there_in y.presences after q)
+  where
+    put : Option Presence
+    put = Some (record { is_there = there; is_due = false })
+
+    by : (b : Bool) → bytes_eq name q ≡ b → is_there_in (presence_in x q) ≡ is_there_in (cond (bytes_eq name q) put (presence_in x q))
+    by true e =
+        ap (λ k. is_there_in (presence_in x k)) (sym ((bytes_eq-Decides name q).0 e)) ∙ (no_news news).1
+        ∙ ap (λ b. is_there_in (cond b put (presence_in x q))) (sym e)
+    by false e = ap (λ b. is_there_in (cond b put (presence_in x q))) (sym e)
+
+-- .. or if an allocation failed, so that nothing is known of it
+pub unsaid_given : (x y : FolderSite) → y.presences.entries ≡ x.presences.entries → y.site ≡ x.site → (y.has_news ≡ false → x.has_news ≡ false) → IsGiven x → IsGiven y
+unsaid_given x y same site no_news g news q =
+    ap (λ (s : KeptSiteVal). is_one_of s.others q) site ∙ g (no_news news) q ∙ ap (list_any (is_there_as q)) (sym same)
+
 -- what is put under a name
 pub put_at : (name key : List ℕ) (m n : Presences) (p : Presence) → key ≡ name → Updates key m n (Some p) → (q : List ℕ) → get_by_text n q ≡ cond (bytes_eq name q) (Some p) (get_by_text m q)
 put_at name key m n p same h q = btree_map_updates_text key m n (Some p) h q ∙ ap (λ k. cond (bytes_eq k q) (Some p) (get_by_text m q)) same
@@ -573,6 +714,18 @@ others_next q name key p s t left rest all same there is h held =
 -- what is known of the others stays
 pub put_other : (name key : List ℕ) (m n : Presences) (p : Presence) → key ≡ name → Updates key m n (Some p) → (q : List ℕ) → bytes_eq name q ≡ false → get_by_text n q ≡ get_by_text m q
 put_other name key m n p same h q apart = put_at name key m n p same h q ∙ ap (λ b. cond b (Some p) (get_by_text m q)) apart
+
+pub nothing_known : (p : Option Presence) → false ≡ is_some p → p ≡ None
+nothing_known None e = refl
+nothing_known (Some x) e = cc
+
+-- .. and of the new one nothing was known
+pub put_known : (name key : List ℕ) (m n : Presences) → key ≡ name → get_by_text m name ≡ None → Updates key m n (Some new_presence) → AreStillKnown m n
+put_known name key m n same none h q = by (bytes_eq name q) (bytes_eq-Decides name q).0 (put_at name key m n new_presence same h q)
+  where
+    by : (b : Bool) → (b ≡ true → name ≡ q) → get_by_text n q ≡ cond b (Some new_presence) (get_by_text m q) → StaysKnown (get_by_text m q) (get_by_text n q)
+    by true is e = inr (sym (ap (get_by_text m) (is refl)) ∙ none, e)
+    by false is e = inl e
 
 -- ---- names of a list, one by one
 

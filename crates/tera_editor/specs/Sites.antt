@@ -1,5 +1,5 @@
 -- The sites below the roots of folders, and what is known of the files whose names templates use.
-use Rattle.std.specs.Prelude.{◌≡◌, ◌++◌, ◌&&◌, ℕ, ◌<◌, List, Bool, false, true, not, cond, length, map, String, string_bytes, slice_index_or, Option, Some}
+use Rattle.std.specs.Prelude.{◌≡◌, ◌⊎◌, ◌++◌, ◌&&◌, ℕ, ◌<◌, List, [], Bool, false, true, not, cond, length, map, String, string_bytes, slice_index_or, Option, None, Some}
 use Rattle.std.specs.BTreeMap.{BTreeMap, get_by_text}
 use Rattle.std.specs.List.{filter, find, flat_map, list_any}
 use Rattle.std.specs.Option.{option_and_then, option_map, option_map_or}
@@ -37,9 +37,23 @@ pub record IsNumbered (folder : List ℕ) (xs : List FolderSite) (k : ℕ) : Typ
 abbrev pub site_for : Sites → List (List ℕ) → List ℕ → Option KeptSiteVal
 site_for s folders file = option_and_then (site_in s) (folder_of folders file)
 
+-- the site of a folder, and what is known of the names there; nothing at first
+pub record SitedVal : Type 0 where
+  pub site : KeptSiteVal
+  pub known : List (String Global × Presence)
+
+abbrev pub sited : FolderSite → SitedVal
+sited x = record { site = x.site; known = x.presences.entries }
+
+abbrev pub sited_in : Sites → List ℕ → Option SitedVal
+sited_in s folder = option_map sited (find (has_folder folder) s.all.items)
+
+abbrev pub with_nothing_known : KeptSiteVal → SitedVal
+with_nothing_known site = record { site = site; known = [] }
+
 -- that of a folder is this one, or none, and the others are what they were
-abbrev pub IsSiteAt : List ℕ → Option KeptSiteVal → Sites → Sites → Type 0
-IsSiteAt folder site old now = (f : List ℕ) → site_in now f ≡ cond (bytes_eq folder f) site (site_in old f)
+abbrev pub IsSiteAt : List ℕ → Option SitedVal → Sites → Sites → Type 0
+IsSiteAt folder site old now = (f : List ℕ) → sited_in now f ≡ cond (bytes_eq folder f) site (sited_in old f)
 
 -- ---- what is known of files
 
@@ -66,6 +80,20 @@ may_be x n = list_any (is_there_as n) x.presences.entries
 -- that of a name is this one, and of the others it is what it was
 abbrev pub IsPresenceAt : List ℕ → Option Presence → FolderSite → FolderSite → Type 0
 IsPresenceAt name presence old now = (n : List ℕ) → presence_in now n ≡ cond (bytes_eq name n) presence (presence_in old n)
+
+-- What is known of a name stays. If nothing was, there may be a file from now on, and that is to be asked.
+abbrev pub new_presence : Presence
+new_presence = record { is_there = true; is_due = true }
+
+abbrev pub StaysKnown : Option Presence → Option Presence → Type 0
+StaysKnown old now = (now ≡ old) ⊎ ((old ≡ None) × (now ≡ Some new_presence))
+
+abbrev pub AreStillKnown : Presences → Presences → Type 0
+AreStillKnown old now = (n : List ℕ) → StaysKnown (get_by_text old n) (get_by_text now n)
+
+-- there may be a file, by that
+abbrev pub is_there_in : Option Presence → Bool
+is_there_in p = option_map_or (λ q. q.is_there) p false
 
 abbrev pub asked_again : Presence → Presence
 asked_again p = record p { is_due = true }
@@ -134,11 +162,16 @@ pub record AreAround (names : List (List ℕ)) (old now : Sites) : Type 0 where
   pub as_many : length now.all.items ≡ length old.all.items
   pub each : (k : ℕ) (d : FolderSite) → k < length old.all.items → IsRenewed names (slice_index_or old.all.items k d) (slice_index_or now.all.items k d)
 
+-- of each site what is known of names stays
+abbrev pub KeepsKnown : Sites → Sites → Type 0
+KeepsKnown old now = (k : ℕ) (d : FolderSite) → k < length old.all.items → AreStillKnown (slice_index_or old.all.items k d).presences (slice_index_or now.all.items k d).presences
+
 -- The names of the documents around which something else is are after the others that are to be published.
 pub record AddsRenewed (names_old names_now : List (List ℕ)) (old now : Sites) : Type 0 where
   pub more : List (List ℕ)
   pub added : names_now ++ renewed_of now ≡ (names_old ++ renewed_of old) ++ more
   pub around : AreAround more old now
+  pub known : KeepsKnown old now
 
 -- it is said of a name below a root, for each site there
 abbrev pub is_below : UsedVal → FolderSite → Bool

@@ -9,7 +9,7 @@ ghost use Rattle.tera_workspace.specs.SiteValues.{no_site};
 ghost use Rattle.tera_workspace.specs.Sites.{AreRenewed, FitsWorkspace};
 ghost use Rattle.tera_workspace.specs.Workspaces.{IsKept};
 ghost use Rattle.tera_editor.specs.Sites as specs;
-ghost use Rattle.tera_editor.specs.Sites.{AddsRenewed, AreAbsent, AreAround, AreFitting, AreGiven, AreSaid, HasOthers, HaveOthers, IsGiven, IsNumbered, IsPresenceAt, IsPresenceOf, IsSaid, IsSiteAt, NoneBefore, due_in, due_of_sites, may_be, presence_in, renewed_of, used_view};
+ghost use Rattle.tera_editor.specs.Sites.{AddsRenewed, AreAbsent, AreAround, AreFitting, AreGiven, AreSaid, AreStillKnown, HasOthers, HaveOthers, IsGiven, IsNumbered, IsPresenceAt, IsPresenceOf, IsSaid, IsSiteAt, KeepsKnown, NoneBefore, due_in, due_of_sites, may_be, presence_in, renewed_of, used_view, with_nothing_known};
 
 use crate::settings::folder_of;
 use std::alloc::{AllocError, Global};
@@ -88,7 +88,8 @@ impl Sites {
     /// The folder has a site below this root from now on, of which nothing is known. After an allocation failure the
     /// sites are what they were.
     pub fn set(&mut self, alloc: Global, folder: &str, root: &str) -> Result<(), AllocError>
-        ensures set { OnOk result (IsSiteAt folder.now (Some (no_site root.now [])) self.old self.new) }
+        ensures set { OnOk result (IsSiteAt folder.now
+            (Some (with_nothing_known (no_site root.now []))) self.old self.new) }
         ensures err { OnErr result (self.new.all.items ≡ self.old.all.items) }
         ensures given { AreGiven self.old → AreGiven self.new }
         ensures renewed { self.new.renewed ≡ self.old.renewed }
@@ -182,6 +183,7 @@ impl Sites {
         ensures same { IfOk result (λ some. some ≡ false → self.new.all.items ≡ self.old.all.items) }
         ensures given { AreGiven self.old → AreGiven self.new }
         ensures sites { AreAround [] self.old self.new }
+        ensures known { KeepsKnown self.old self.new }
         ensures renewed { self.new.renewed ≡ self.old.renewed }
     {
         let mut some = false;
@@ -303,6 +305,7 @@ impl FolderSite {
     fn assume(&mut self, alloc: Global) -> Result<bool, AllocError>
         ensures said { IfOk result (λ some. some ≡ false → IsSaid self.new) }
         ensures none { IfOk result (λ some. some ≡ false → self.new ≡ self.old) }
+        ensures known { AreStillKnown self.old.presences self.new.presences }
         ensures given { IsGiven self.old → IsGiven self.new }
         ensures same { self.new ≡ record self.old { presences = self.new.presences; has_news = self.new.has_news } }
     {
@@ -333,10 +336,10 @@ impl FolderSite {
     fn set_presence(&mut self, alloc: Global, name: &str, is_there: bool) -> Result<(), AllocError>
         ensures set { OnOk result (IsPresenceAt name.now
             (Some (record { is_there = is_there; is_due = false })) self.old self.new) }
-        ensures given { IsGiven self.new }
+        ensures given { IsGiven self.old → IsGiven self.new }
         ensures same { self.new ≡ record self.old { presences = self.new.presences; has_news = self.new.has_news } }
     {
-        self.has_news = true;
+        self.has_news = self.is_news(name, is_there);
         self.presences.insert(
             String::from_str(alloc, name)?,
             Presence {
@@ -345,6 +348,20 @@ impl FolderSite {
             },
         )?;
         Ok(())
+    }
+
+    // Whether there is news, also by what is said of the name now.
+    fn is_news(&self, name: &str, is_there: bool) -> bool
+        ensures { result ≡ false →
+            (self.now.has_news ≡ false) × (specs.is_there_in (presence_in self.now name.now) ≡ is_there) }
+    {
+        if self.has_news {
+            return true;
+        }
+        match self.presences.get(name) {
+            Some(presence) => presence.is_there != is_there,
+            None => is_there,
+        }
     }
 
     fn look_again(&mut self)
@@ -381,6 +398,7 @@ fn assume_each(
         AreAbsent (map string_bytes names.now) presences.new) }
     ensures none { IfOk result (λ some. some ≡ false →
         (presences.new ≡ presences.old) × (has_news.new ≡ has_news.old)) }
+    ensures known { AreStillKnown presences.old presences.new }
     ensures news { (has_news.new ≡ true)
         ⊎ ((presences.new ≡ presences.old) × (has_news.new ≡ has_news.old)) }
 {
@@ -405,6 +423,7 @@ fn add_new(
         get_by_text presences.new n ≡ get_by_text presences.old n }
     ensures added { OnOk result (specs.is_absent_in presences.new name.now
         ≡ specs.is_absent_in presences.old name.now) }
+    ensures known { AreStillKnown presences.old presences.new }
 {
     if presences.contains_key(name) {
         return Ok(());

@@ -9,7 +9,7 @@ use Rattle.std.specs.Str.{bytes_eq}
 use Rattle.tera_server.specs.Configuring.{AreFoundSet, ArePublishedAgain, IsConfiguredBy, IsUnconfigured, settings_by, site_by}
 use Rattle.tera_server.specs.Sending.{unpublished_of}
 use Rattle.tera_editor.specs.Settings.{settings_in}
-use Rattle.tera_editor.specs.Sites.{AreGiven, IsSiteAt, site_in}
+use Rattle.tera_editor.specs.Sites.{AreGiven, IsSiteAt, sited_in}
 use Rattle.tera_server.specs.States.{Grows, edited_by, edited_of, with_name}
 use Rattle.tera_editor.specs.UnreadFiles.{ReasonVal, is_same, why_of}
 use Rattle.tera_server.specs.declared.configuring.FoundSettings.{FoundSettings}
@@ -107,7 +107,7 @@ module _ (s a z b t : Server) (first : a ≡ record s { unpublished = a.unpublis
   }
 
   pub configured : (folder : List ℕ) (found : FoundSettings) → IsUnconfigured s t → AreFoundSet folder found b t → ArePublishedAgain folder found s a
-      → IsSiteAt folder (site_by found (site_in a.sites folder)) a.sites z.sites → z.sites.renewed ≡ a.sites.renewed → IsConfiguredBy folder found s t
+      → IsSiteAt folder (site_by found (sited_in a.sites folder)) a.sites z.sites → z.sites.renewed ≡ a.sites.renewed → IsConfiguredBy folder found s t
   configured folder found rest h published site renewed = record {
     rest = rest;
     set = record {
@@ -116,8 +116,8 @@ module _ (s a z b t : Server) (first : a ≡ record s { unpublished = a.unpublis
       why = h.why;
     };
     site =
-        subst (λ x. IsSiteAt folder (site_by found (site_in s.sites folder)) s.sites x) (sym sites_are)
-        (subst (λ x. IsSiteAt folder (site_by found (site_in x folder)) x z.sites) (ap (λ x. x.sites) first) site);
+        subst (λ x. IsSiteAt folder (site_by found (sited_in s.sites folder)) s.sites x) (sym sites_are)
+        (subst (λ x. IsSiteAt folder (site_by found (sited_in x folder)) x z.sites) (ap (λ x. x.sites) first) site);
     renewed = ap (λ x. x.renewed) sites_are ∙ renewed ∙ ap (λ x. x.sites.renewed) first;
     published = elim published [
       | inl kept ↦ inl (kept.0, kept.1, ap (λ u. map string_bytes u.items) unpublished_is ∙ kept.2)
@@ -126,9 +126,9 @@ module _ (s a z b t : Server) (first : a ≡ record s { unpublished = a.unpublis
   }
 
 -- the site of a folder stays
-pub site_stays : (s : Sites) (folder : List ℕ) → IsSiteAt folder (site_in s folder) s s
+pub site_stays : (s : Sites) (folder : List ℕ) → IsSiteAt folder (sited_in s folder) s s
 site_stays s folder f = by (bytes_eq folder f) (bytes_eq-Decides folder f).0
   where
-    by : (b : Bool) → (b ≡ true → folder ≡ f) → site_in s f ≡ cond b (site_in s folder) (site_in s f)
-    by true is = ap (site_in s) (sym (is refl))
+    by : (b : Bool) → (b ≡ true → folder ≡ f) → sited_in s f ≡ cond b (sited_in s folder) (sited_in s f)
+    by true is = ap (sited_in s) (sym (is refl))
     by false is = refl

@@ -4,12 +4,12 @@ use Rattle.std.specs.List.{flat_map, list_any}
 use Rattle.std.specs.Option.{option_map_or}
 use Rattle.std.specs.Str.{bytes_eq}
 use Rattle.tera_workspace.specs.Definitions.{texts_read}
-use Rattle.tera_workspace.specs.SiteValues.{KeptSiteVal, no_site}
+use Rattle.tera_workspace.specs.SiteValues.{no_site}
 use Rattle.tera_workspace.specs.Workspaces.{reported_of_name}
 use Rattle.tera_workspace.specs.declared.workspace.Workspace.{Workspace}
 use Rattle.tera_server.specs.Sending.{unpublished_of}
 use Rattle.tera_editor.specs.Settings.{SettingsVal, file_in, finds_more, finds_more_if_any, reported_in, settings_in, settings_view}
-use Rattle.tera_editor.specs.Sites.{AreGiven, IsSiteAt, site_in}
+use Rattle.tera_editor.specs.Sites.{AreGiven, IsSiteAt, SitedVal, sited_in, with_nothing_known}
 use Rattle.tera_server.specs.States.{Grows, edited_of, needed_of, needs}
 use Rattle.tera_editor.specs.Templates.{is_inside}
 use Rattle.tera_editor.specs.UnreadFiles.{ReasonVal, reason_view, why_of}
@@ -52,11 +52,11 @@ finds_more_by found_as.Nothing old = finds_more_if_any old
 finds_more_by (found_as.Set file settings) old = finds_more (settings_view settings) || finds_more_if_any old
 finds_more_by (found_as.Wrong file why) old = false
 
--- the site then, by that before; nothing is known of its documents yet
-abbrev pub site_below : Option (List ℕ) → Option KeptSiteVal
-site_below root = option_map (λ r. no_site r []) root
+-- the site then, by that before; nothing is known of its documents and names yet
+abbrev pub site_below : Option (List ℕ) → Option SitedVal
+site_below root = option_map (λ r. with_nothing_known (no_site r [])) root
 
-abbrev pub site_by : FoundSettings → Option KeptSiteVal → Option KeptSiteVal
+abbrev pub site_by : FoundSettings → Option SitedVal → Option SitedVal
 site_by found_as.Nothing old = None
 site_by (found_as.Set file settings) old = site_below (settings_view settings).root
 site_by (found_as.Wrong file why) old = old
@@ -89,7 +89,7 @@ pub record AreFoundSet (folder : List ℕ) (found : FoundSettings) (s t : Server
 pub record IsConfiguredBy (folder : List ℕ) (found : FoundSettings) (s t : Server) : Type 0 where
   pub rest : IsUnconfigured s t
   pub set : AreFoundSet folder found s t
-  pub site : IsSiteAt folder (site_by found (site_in s.sites folder)) s.sites t.sites
+  pub site : IsSiteAt folder (site_by found (sited_in s.sites folder)) s.sites t.sites
   pub renewed : t.sites.renewed ≡ s.sites.renewed
   pub published : ArePublishedAgain folder found s t
 

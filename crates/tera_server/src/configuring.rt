@@ -6,7 +6,7 @@ ghost use Rattle.tera_workspace.specs.Definitions.{texts_read};
 ghost use Rattle.tera_server.specs.Configuring.{AreFoundSet, ArePublishedAgain, IsConfiguredBy, IsUnconfigured, finds_more_by, has_wrong_settings, is_due_inside, is_wrong_in, settings_by, site_below, site_by};
 ghost use Rattle.tera_server.specs.Sending.{unpublished_of};
 ghost use Rattle.tera_editor.specs.Settings.{is_in_library, reported_in, settings_for, settings_in, settings_view};
-ghost use Rattle.tera_editor.specs.Sites.{AreGiven, IsSiteAt, site_in};
+ghost use Rattle.tera_editor.specs.Sites.{AreGiven, IsSiteAt, sited_in};
 ghost use Rattle.tera_server.specs.States.{Grows, edited_of, needed_of, needs};
 ghost use Rattle.tera_editor.specs.UnreadFiles.{reason_view, why_of};
 ghost use Rattle.tera_server.specs.declared.configuring.FoundSettings.TheVariants as found_as;
@@ -182,7 +182,7 @@ impl Server {
     ) -> Result<(), AllocError>
         ensures same { self.new ≡ record self.old { sites = self.new.sites } }
         ensures set { OnOk result (IsSiteAt folder.now
-            (site_by found.now (site_in self.old.sites folder.now)) self.old.sites self.new.sites) }
+            (site_by found.now (sited_in self.old.sites folder.now)) self.old.sites self.new.sites) }
         ensures given { AreGiven self.old.sites → AreGiven self.new.sites }
         ensures renewed { self.new.sites.renewed ≡ self.old.sites.renewed }
     {

@@ -2,7 +2,7 @@
 
 ghost use Rattle.std.specs.Prelude.{◌≡◌, [], map, IfOk, OnOk};
 ghost use Rattle.tera_server.specs.Naming.{AreNamesRead, IsPresenceSaid, OnlyNames};
-ghost use Rattle.tera_editor.specs.Sites.{AreAround, AreDueAgain, due_of_sites, used_view};
+ghost use Rattle.tera_editor.specs.Sites.{AreAround, AreDueAgain, KeepsKnown, due_of_sites, used_view};
 
 use crate::server::Server;
 use std::alloc::{AllocError, Global};
@@ -14,6 +14,7 @@ impl Server {
     /// done.
     pub fn read_names(&mut self, alloc: Global) -> Result<(), AllocError>
         ensures only { OnlyNames self.old self.new }
+        ensures known { KeepsKnown self.old.sites self.new.sites }
         ensures read { OnOk result (AreNamesRead self.old self.new) }
     {
         self.workspace.read(alloc)?;

@@ -18,7 +18,7 @@ ghost use Rattle.tera_server.specs.Steps.{ended_at, Step, IsRefused, IsUntaken, 
 ghost use Rattle.tera_editor.specs.KnownFiles.{is_known, known_names, IsKnownAs};
 ghost use Rattle.tera_editor.specs.Templates.{is_inside};
 ghost use Rattle.tera_editor.specs.Settings.{settings_in};
-ghost use Rattle.tera_editor.specs.Sites.{AreGiven, renewed_of, site_in};
+ghost use Rattle.tera_editor.specs.Sites.{AreGiven, KeepsKnown, renewed_of, site_in};
 ghost use Rattle.tera_editor.specs.UnreadFiles.{reason_view, why_of, IsWhyAt};
 ghost use Rattle.tera_server.specs.declared.server.Phase.TheVariants.{New};
 
@@ -436,6 +436,7 @@ impl Server {
         ensures settled { OnOk result (IsSettling self.old.phase self.old self.new out.old out.new) }
         ensures unsettled { OnErr result (ArePublishedInPart self.old self.new out.old out.new) }
         ensures stays { OnlyReports self.old self.new }
+        ensures known { KeepsKnown self.old.sites self.new.sites }
     {
         if self.phase != Phase::Running {
             return Ok(());

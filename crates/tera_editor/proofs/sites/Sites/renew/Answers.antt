@@ -1,10 +1,10 @@
 use Rattle.std.proofs.Common.{length, map, string_bytes, refl, sym, ap, subst}
 use Rattle.tera_editor.specs.Sites.{HasOthers}
-use Rattle.tera_editor.proofs.SiteLemmas.{EachBelow, adds_none, adds_on, around_same}
+use Rattle.tera_editor.proofs.SiteLemmas.{EachBelow, adds_none, adds_on, around_same, keeps_same}
 use Rattle.tera_editor.proofs.sites.Sites.renew.Goals as goal
 
 pub rounds-init : goal.rounds-init
-rounds-init c = (adds_none (map string_bytes c.args.names.now.items) c.args.self.now c.args.self.now refl (around_same c.args.self.now), λ g. g)
+rounds-init c = (adds_none (map string_bytes c.args.names.now.items) c.args.self.now c.args.self.now refl (around_same c.args.self.now) (keeps_same c.args.self.now), λ g. g)
 
 pub rounds-preserved : goal.rounds-preserved
 rounds-preserved c =
@@ -14,7 +14,7 @@ rounds-preserved c =
     let t = c.renew_each.new.self in
     let u = c.assume.new.self in (
       adds_on first now now c.args.self.now t u (adds_on first before now c.args.self.now c.rounds.self t c.rounds.invariant.0 c.renew_each.ensures.names)
-          (adds_none now t u (ap (λ v. map string_bytes v.items) c.assume.ensures.renewed) c.assume.ensures.sites),
+          (adds_none now t u (ap (λ v. map string_bytes v.items) c.assume.ensures.renewed) c.assume.ensures.sites c.assume.ensures.known),
       λ g. c.assume.ensures.given (c.renew_each.ensures.given (c.rounds.invariant.1 g)),
     )
 
@@ -34,7 +34,7 @@ returns-in_err-assume-clause-names c =
     let t = c.renew_each.new.self in
     let u = c.assume.new.self in
     adds_on first now now c.args.self.now t u (adds_on first before now c.args.self.now c.rounds.self t c.rounds.invariant.0 c.renew_each.ensures.names)
-    (adds_none now t u (ap (λ v. map string_bytes v.items) c.assume.ensures.renewed) c.assume.ensures.sites)
+    (adds_none now t u (ap (λ v. map string_bytes v.items) c.assume.ensures.renewed) c.assume.ensures.sites c.assume.ensures.known)
 
 pub returns-then-not-branch-clause-others : goal.returns-then-not-branch-clause-others
 returns-then-not-branch-clause-others c = λ g.
@@ -51,4 +51,4 @@ returns-then-not-branch-clause-names c =
     let t = c.renew_each.new.self in
     let u = c.assume.new.self in
     adds_on first now now c.args.self.now t u (adds_on first before now c.args.self.now c.rounds.self t c.rounds.invariant.0 c.renew_each.ensures.names)
-    (adds_none now t u (ap (λ v. map string_bytes v.items) c.assume.ensures.renewed) c.assume.ensures.sites)
+    (adds_none now t u (ap (λ v. map string_bytes v.items) c.assume.ensures.renewed) c.assume.ensures.sites c.assume.ensures.known)

@@ -1,4 +1,5 @@
 use Rattle.tera_server.proofs.NamingLemmas.{names_read, only_named, only_read}
+use Rattle.tera_editor.proofs.SiteLemmas.{keeps_same}
 use Rattle.tera_server.proofs.server.Server.read_names.Goals as goal
 
 pub returns-in_err-read-clause-only : goal.returns-in_err-read-clause-only
@@ -15,3 +16,9 @@ pub returns-clause-read : goal.returns-clause-read
 returns-clause-read c =
     names_read c.renew.result c.args.self.now c.read.new.self c.renew.new.self c.renew.new.names c.read.ensures.kept c.in_ok-read.ensures.read
     c.renew.ensures.fits c.renew.ensures.said c.renew.ensures.others c.renew.ensures.renewed c.renew.ensures.names
+
+pub returns-in_err-read-clause-known : goal.returns-in_err-read-clause-known
+returns-in_err-read-clause-known c = keeps_same c.args.self.now.sites
+
+pub returns-clause-known : goal.returns-clause-known
+returns-clause-known c = c.renew.ensures.names.known

@@ -8,6 +8,7 @@ use Rattle.tera_editor.specs.Sites.{renewed_of}
 use Rattle.tera_server.specs.declared.server.Phase.TheVariants.{Running}
 use Rattle.tera_server.specs.declared.server.Server.{Server}
 use Rattle.tera_server.proofs.PublishLemmas.{NameList, names_of, with_found, publisher_by, is_other, part_before, part_none, part_same, part_due, part_others, published_whole, on_any_err}
+use Rattle.tera_editor.proofs.SiteLemmas.{keeps_same}
 use Rattle.tera_server.proofs.server.Server.settle.Goals as goal
 
 -- those that are due, when what was not published in time comes after what was edited
@@ -104,3 +105,24 @@ returns-clause-settled c =
     (published_whole s w sites others unpublished edited added.more faults old next now between c.in_ok-self.ensures.settled c.in_ok-self.ensures.read c.in_ok-self.ensures.names
     added.around (λ kept. c.in_ok-renew.ensures.fits (c.settle.ensures.kept kept) (c.in_ok-self.ensures.read kept)) c.in_ok-renew.ensures.said c.in_ok-renew.ensures.others more sent
     (ap (map string_bytes) c.clear-2.ensures.items) (ap (map string_bytes) c.clear.ensures.items) c.in_ok-renew.ensures.renewed)
+
+pub returns-in_err-append-clause-known : goal.returns-in_err-append-clause-known
+returns-in_err-append-clause-known c = keeps_same c.args.self.now.sites
+
+pub returns-in_err-self-clause-known : goal.returns-in_err-self-clause-known
+returns-in_err-self-clause-known c = keeps_same c.args.self.now.sites
+
+pub returns-in_err-renew-clause-known : goal.returns-in_err-renew-clause-known
+returns-in_err-renew-clause-known c = c.renew.ensures.names.known
+
+pub returns-in_err-between-clause-known : goal.returns-in_err-between-clause-known
+returns-in_err-between-clause-known c = c.renew.ensures.names.known
+
+pub returns-in_err-publish_each-clause-known : goal.returns-in_err-publish_each-clause-known
+returns-in_err-publish_each-clause-known c = c.renew.ensures.names.known
+
+pub returns-in_err-publish_each-2-clause-known : goal.returns-in_err-publish_each-2-clause-known
+returns-in_err-publish_each-2-clause-known c = c.renew.ensures.names.known
+
+pub returns-clause-known : goal.returns-clause-known
+returns-clause-known c = c.renew.ensures.names.known
