@@ -1,3 +1,4 @@
+pub mod DueLemmas
 pub mod EditorLemmas
 pub mod ListLemmas
 pub mod RuleLemmas

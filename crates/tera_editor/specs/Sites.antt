@@ -118,6 +118,13 @@ due_in x = map (used_of x.site.root) (filter is_entry_due x.presences.entries)
 abbrev pub due_of_sites : Sites → List UsedVal
 due_of_sites s = flat_map due_in s.all.items
 
+-- it is to be asked of a name; and of no name
+abbrev pub is_due_in : Option Presence → Bool
+is_due_in p = option_map_or (λ q. q.is_due) p false
+
+abbrev pub NoneDue : Sites → Type 0
+NoneDue s = (k : ℕ) (d : FolderSite) (n : List ℕ) → k < length s.all.items → is_due_in (presence_in (slice_index_or s.all.items k d) n) ≡ false
+
 -- ---- what changes
 
 -- each of some sites is what its documents say, as they were read

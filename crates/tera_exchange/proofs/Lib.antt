@@ -1,3 +1,4 @@
 pub mod ListedLemmas
+pub mod NameLemmas
 pub mod SendLemmas
 pub mod ServingLemmas

@@ -18,11 +18,11 @@ use Rattle.tera_program_parts.specs.declared.extensions.TheConstants.{EXTENSIONS
 use Rattle.tera_exchange.specs.declared.server.Left.{Left}
 use Rattle.tera_exchange.specs.declared.server.Left.TheVariants as lefts
 use Rattle.tera_server.specs.Configuring.{AreAsked, IsConfiguredBy, IsUnconfigured}
-use Rattle.tera_server.specs.Naming.{OnlyNames}
+use Rattle.tera_server.specs.Naming.{IsPresenceSaid, OnlyNames}
 use Rattle.tera_editor.specs.Settings.{SettingsVal, settings_for}
 use Rattle.tera_server.specs.Settling.{due_of, IsSettling, ArePublishedInPart}
 use Rattle.tera_server.specs.Sending.{unpublished_of}
-use Rattle.tera_editor.specs.Sites.{AreDueAgain, AreGiven as AreOthersGiven, renewed_of, site_in}
+use Rattle.tera_editor.specs.Sites.{AreAround, AreDueAgain, AreGiven as AreOthersGiven, UsedVal, renewed_of, site_in}
 use Rattle.tera_server.specs.States.{known_of, text_on, why_on, IsLoadedAs, IsNotLoaded, NeededVal, NeedsFile, NeedsFolder, NeedsChanged, is_there, needed_of, edited_of, Grows, KeepsReported}
 use Rattle.tera_server.specs.Steps.{ended_at, Step, IsRefused, IsUntaken}
 use Rattle.tera_server.specs.declared.configuring.FoundSettings.{FoundSettings}
@@ -227,6 +227,10 @@ pub record IsGivenInPart (needed : NeededVal) (s t : Server) : Type 0 where
 -- else changes
 abbrev pub AreNamesSaid : Server → Server → Type 0
 AreNamesSaid s t = OnlyNames s t
+
+-- it is said of one of them whether there may be a file
+abbrev pub IsNameSaid : UsedVal → Server → Server → Type 0
+IsNameSaid u s t = (there : Bool) × AreAround [] s.sites t.sites × IsPresenceSaid u there s t
 
 -- what a server asks for is taken, one by one, and given to it
 pub data Gives (s : Server) : Server → Type 0 where

@@ -9,8 +9,9 @@ ghost use Rattle.message_frames.specs.Shown.{Message, shown};
 ghost use Rattle.message_frames.specs.Representing.{Represents};
 ghost use Rattle.message_frames.specs.Writing.{frame as frame_text};
 ghost use Rattle.tera_files.specs.Names.{texts};
-ghost use Rattle.tera_exchange.specs.Serving.{Takes, SettlesSo, Rests, IsLoaded, IsUnloaded, AreKnownGiven, AreKnownGivenInPart, AreLoaded, AreLoadedInPart, AreLibrariesGiven, AreLibrariesGivenInPart, AreListed, AreListedGiven, AreSomeGiven, AreSomeGivenInPart, AreListedGivenInPart, IsFolderGiven, IsFolderGivenInPart, IsOpenGiven, IsOpenGivenInPart, extensions, extensions_in, libraries_in, AreGiven, AreGivenInPart, AreGivenAnew, AreGivenAnewInPart, AreNamesSaid, IsGivenInPart, Gives, IsNew, IsTalking, IsWaiting, IsServed};
+ghost use Rattle.tera_exchange.specs.Serving.{Takes, SettlesSo, Rests, IsLoaded, IsUnloaded, AreKnownGiven, AreKnownGivenInPart, AreLoaded, AreLoadedInPart, AreLibrariesGiven, AreLibrariesGivenInPart, AreListed, AreListedGiven, AreSomeGiven, AreSomeGivenInPart, AreListedGivenInPart, IsFolderGiven, IsFolderGivenInPart, IsOpenGiven, IsOpenGivenInPart, extensions, extensions_in, libraries_in, AreGiven, AreGivenInPart, AreGivenAnew, AreGivenAnewInPart, AreNamesSaid, IsNameSaid, IsGivenInPart, Gives, IsNew, IsTalking, IsWaiting, IsServed};
 ghost use Rattle.tera_server.specs.Naming.{OnlyNames};
+ghost use Rattle.tera_editor.specs.Sites.{NoneDue, used_view};
 ghost use Rattle.tera_server.specs.States.{NeedsChanged, needed_view, needed_of};
 ghost use Rattle.tera_editor.specs.KnownFiles.{is_known};
 ghost use Rattle.tera_server.specs.declared.server.Server.{Server};
@@ -301,6 +302,7 @@ fn give_all<F: Files + Input + AllocGlobal + Clone + Drop>(
 ) -> Result<(), AllocError>
     ensures given { Gives server.old server.new }
     ensures all { OnOk result (needed_of server.new ≡ []) }
+    ensures names { OnOk result (NoneDue server.new.sites) }
 {
     give(files, server)?;
     say_names(files, server)
@@ -311,7 +313,8 @@ fn say_names<F: Files + Input + AllocGlobal>(
     files: &F,
     server: &mut Server,
 ) -> Result<(), AllocError>
-    ensures { AreNamesSaid server.old server.new }
+    ensures said { AreNamesSaid server.old server.new }
+    ensures all { OnOk result (NoneDue server.new.sites) }
 {
     server.read_names(files.alloc())?;
     let due = server.due_names(files.alloc())?;
@@ -326,7 +329,8 @@ fn say_name<F: Files + Input + AllocGlobal>(
     server: &mut Server,
     used: &UsedName,
 ) -> Result<(), AllocError>
-    ensures { OnlyNames server.old server.new }
+    ensures only { OnlyNames server.old server.new }
+    ensures said { OnOk result (IsNameSaid (used_view used.now) server.old server.new) }
 {
     let is_there = may_be(files, folder_at(used.root.as_str()), used.name.as_str())?;
     server.set_presence(files.alloc(), used, is_there)
