@@ -1,6 +1,6 @@
--- One page says something else than before. Around templates from which no way leads to it, and which extend nothing that
--- changed, there is what was there before.
-use Rattle.std.proofs.Common.{◌≡◌, ◌∙◌, ◌⊎◌, ℕ, Bool, true, List, [], ◌∷◌, ◌||◌, Option, None, Some, inl, inr, map, refl, sym, ap, subst}
+-- One page says something else than before. Around templates from which no way leads to it, and which do not extend it,
+-- directly or indirectly, there is what was there before.
+use Rattle.std.proofs.Common.{◌≡◌, ◌∙◌, ◌⊎◌, ℕ, Bool, List, [], ◌∷◌, ◌||◌, Option, None, Some, inl, inr, refl, sym, ap, subst}
 use Rattle.std.specs.Prelude.{slice_get}
 use Rattle.std.specs.List.{Contains, list_any}
 use Rattle.std.specs.Str.{bytes_eq}
@@ -10,7 +10,6 @@ use Rattle.tera_site.specs.Kept.{AreAboveAlike}
 use Rattle.tera_site.specs.Pages.{PageVal}
 use Rattle.tera_site.specs.Sites.{Above, AroundVal, AreInherited, Below, IsAround, Top, has_block, leads, number_from, parent_names, parents, site_with, used_names}
 use Rattle.tera_site.proofs.LinkLemmas.{IsAmong, by_name, links_by, name_links, parent_used}
-use Rattle.tera_site.proofs.TourLemmas.{same_Some}
 
 -- ---- ways that end at none of some things, from which the same links lead on
 
@@ -52,13 +51,12 @@ same_by named near before now used rest i j apart link =
 pub alike_back : (p q : PageVal) → AreAboveAlike p q → AreAboveAlike q p
 alike_back p q h = record { parent = sym h.parent; blocks = sym h.blocks; is_whole = sym h.is_whole }
 
--- the page of a number says the same to those that extend it, or no other page does
-abbrev pub IsParent : (List ℕ → Option ℕ) → ℕ → PageVal → Type 0
-IsParent named at p = (n : List ℕ) × (p.parent ≡ Some n) × (named n ≡ Some at)
+-- A set of numbers of pages: that of a page is one of them, and so are those of all that extend it, directly or indirectly.
+pub record AreAllBelow (named : List ℕ → Option ℕ) (at : ℕ) (ps : List PageVal) (under : ℕ → Type 0) : Type 0 where
+  pub own : under at
+  pub all : (q i : ℕ) (p : PageVal) (n : List ℕ) → slice_get ps q ≡ Some p → p.parent ≡ Some n → named n ≡ Some i → under i → under q
 
-abbrev pub NoneExtendsIt : (List ℕ → Option ℕ) → ℕ → List PageVal → Type 0
-NoneExtendsIt named at ps = (q : ℕ) (p : PageVal) → (q ≡ at → ⊥) → slice_get ps q ≡ Some p → IsParent named at p → ⊥
-
+-- the page of a number says the same to those that extend it
 abbrev pub IsAlikeAt : ℕ → List PageVal → List PageVal → Type 0
 IsAlikeAt at before now = (p : PageVal) → slice_get before at ≡ Some p → (q : PageVal) × (slice_get now at ≡ Some q) × AreAboveAlike p q
 
@@ -83,18 +81,20 @@ module _ (names : List (Option (List ℕ))) (at : ℕ) (before now : List PageVa
         | inr other ↦ (p ∷ ups, Below n i p ups is (sym (rest i other.1) ∙ here) whole higher, λ m. ap (λ b. has_block m p || b) (blocks m))
       ]
 
-  above_apart : NoneExtendsIt named at before → (parent : Option (List ℕ)) (above : List PageVal) → ((n : List ℕ) → parent ≡ Some n → named n ≡ Some at → ⊥)
-      → Above (site_with names before) parent above → IsSame parent above
-  above_apart none _ _ is_not Top = ([], Top, λ n. refl)
-  above_apart none _ _ is_not (Below n i p more is here whole up) =
-      let other : i ≡ at → ⊥ = λ e. is_not n refl (is ∙ ap Some e) in
-      let (ups, higher, blocks) = above_apart none p.parent more (λ m extends leads_there. none i p other here (m, extends, leads_there)) up in
+  above_apart : (under : ℕ → Type 0) → AreAllBelow named at before under → (parent : Option (List ℕ)) (above : List PageVal)
+      → ((n : List ℕ) (i : ℕ) → parent ≡ Some n → named n ≡ Some i → under i → ⊥) → Above (site_with names before) parent above → IsSame parent above
+  above_apart under below _ _ not_under Top = ([], Top, λ n. refl)
+  above_apart under below _ _ not_under (Below n i p more is here whole up) =
+      let apart : under i → ⊥ = not_under n i refl is in
+      let other : i ≡ at → ⊥ = λ e. apart (subst under (sym e) below.own) in
+      let (ups, higher, blocks) = above_apart under below p.parent more (λ m k extends leads_there has. apart (below.all i k p m here extends leads_there has)) up in
       (p ∷ ups, Below n i p ups is (sym (rest i other) ∙ here) whole higher, λ m. ap (λ b. has_block m p || b) (blocks m))
 
-  pub above_same : IsAlikeAt at before now ⊎ NoneExtendsIt named at before → (q : ℕ) (p : PageVal) → (q ≡ at → ⊥) → slice_get before q ≡ Some p
+  pub above_same : (under : ℕ → Type 0) → IsAlikeAt at before now ⊎ AreAllBelow named at before under → (q : ℕ) (p : PageVal) → (under q → ⊥) → slice_get before q ≡ Some p
       → (above : List PageVal) → Above (site_with names before) p.parent above → IsSame p.parent above
-  above_same (inl alike) q p other here above up = above_alike alike p.parent above up
-  above_same (inr none) q p other here above up = above_apart none p.parent above (λ n extends leads_there. none q p other here (n, extends, leads_there)) up
+  above_same under (inl alike) q p apart here above up = above_alike alike p.parent above up
+  above_same under (inr below) q p apart here above up =
+      above_apart under below p.parent above (λ n i extends leads_there has. apart (below.all q i p n here extends leads_there has)) up
 
 -- which of the blocks of a page are above it
 inherited_same : (names : List (Option (List ℕ))) (before now : List PageVal) (p : PageVal) (inherited : Option (List ℕ → Bool))
@@ -112,8 +112,9 @@ inherited_same names before now p (Some inherited) there back h =
 module _ (names : List (Option (List ℕ))) (others : List ℕ → Bool) (at : ℕ) (near : List ℕ) (before now : List PageVal) (first : IsAmong near at)
     (rest : (q : ℕ) → (q ≡ at → ⊥) → slice_get before q ≡ slice_get now q)
     (closed : IsClosed (number_from 0 names) near before) (still : IsClosed (number_from 0 names) near now)
-    (above : IsAlikeAt at before now ⊎ NoneExtendsIt (number_from 0 names) at before)
-    (turned_above : IsAlikeAt at now before ⊎ NoneExtendsIt (number_from 0 names) at now) where
+    (under : ℕ → Type 0) (inside : (q : ℕ) → under q → IsAmong near q)
+    (above : IsAlikeAt at before now ⊎ AreAllBelow (number_from 0 names) at before under)
+    (turned_above : IsAlikeAt at now before ⊎ AreAllBelow (number_from 0 names) at now under) where
   abbrev named_by : List ℕ → Option ℕ
   named_by = number_from 0 names
 
@@ -123,12 +124,13 @@ module _ (names : List (Option (List ℕ))) (others : List ℕ → Bool) (at : �
   apart_same : (q : ℕ) → (IsAmong near q → ⊥) → slice_get before q ≡ slice_get now q
   apart_same q apart = rest q (away q apart)
 
-  pub around_apart : (q : ℕ) (p : PageVal) (a : AroundVal) → (IsAmong near q → ⊥) → slice_get before q ≡ Some p
+  pub around_beside : (q : ℕ) (p : PageVal) (a : AroundVal) → (IsAmong near q → ⊥) → slice_get before q ≡ Some p
       → IsAround (site_with names before) others q p a → IsAround (site_with names now) others q p a
-  around_apart q p a apart here h =
+  around_beside q p a apart here h =
       let all_used = λ (x : PageVal) (n : List ℕ) (has : Contains (used_names x) n). has in
       let there : slice_get now q ≡ Some p = sym (apart_same q apart) ∙ here in
       let back = λ (i : ℕ) (none : IsAmong near i → ⊥). sym (apart_same i none) in
+      let not_under : under q → ⊥ = λ has. apart (inside q has) in
       record {
         has = h.has;
         extends_itself = (
@@ -152,6 +154,6 @@ module _ (names : List (Option (List ℕ))) (others : List ℕ → Bool) (at : �
           ),
         );
         inherited = inherited_same names before now p a.inherited
-            (λ ups up. above_same names at before now rest above q p (away q apart) here ups up)
-            (λ ups up. above_same names at now before (λ i none. sym (rest i none)) turned_above q p (away q apart) there ups up) h.inherited;
+            (λ ups up. above_same names at before now rest under above q p not_under here ups up)
+            (λ ups up. above_same names at now before (λ i none. sym (rest i none)) under turned_above q p not_under there ups up) h.inherited;
       }

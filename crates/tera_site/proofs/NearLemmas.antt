@@ -1,5 +1,5 @@
 -- A template and all that it leads to, as a site of their own: around each of them there is what is around it in the whole site.
-use Rattle.std.proofs.Common.{◌≡◌, ◌∙◌, ℕ, Bool, true, List, [], ◌∷◌, false, not, Option, None, Some, map, refl, sym, ap, subst}
+use Rattle.std.proofs.Common.{◌≡◌, ◌∙◌, ℕ, Bool, true, List, [], ◌∷◌, false, not, Option, None, Some, refl, sym, subst}
 use Rattle.std.specs.Prelude.{◌&&◌, ◌||◌, slice_get}
 use Rattle.std.specs.List.{Contains}
 use Rattle.std.specs.Option.{is_some}
@@ -10,7 +10,7 @@ use Rattle.link_groups.specs.Groups.{IsOnCircle, Reaches, Itself, By, links_at}
 use Rattle.tera_site.specs.Kept.{is_one_of, on_page}
 use Rattle.tera_site.specs.Named.{lacks}
 use Rattle.tera_site.specs.Pages.{PageVal}
-use Rattle.tera_site.specs.Sites.{Above, AroundVal, AreInherited, Below, IsAround, Top, if_any, leads, number_from, parent_names, parents, site_with, used_names}
+use Rattle.tera_site.specs.Sites.{Above, AroundVal, AreInherited, Below, IsAround, Top, if_any, number_from, parent_names, site_with, used_names}
 use Rattle.tera_site.proofs.ApartLemmas.{IsClosed}
 use Rattle.tera_site.proofs.LinkLemmas.{IsAmong, by_name, links_by, name_links, parent_used}
 use Rattle.tera_site.proofs.TourLemmas.{None_Some, first_in, later_in, no_way, same_Some}

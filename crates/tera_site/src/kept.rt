@@ -70,6 +70,13 @@ impl KeptPage {
         })
     }
 
+    /// The name of the template that it extends, if it extends one.
+    pub fn parent(&self) -> Option<&str>
+        ensures { option_map (λ t. t.now) result ≡ (kept_page self.now).parent }
+    {
+        text_of(&self.parent)
+    }
+
     /// Whether the template extends the one of this name.
     pub fn extends(&self, name: &str) -> bool
         ensures { result ≡ is_name (kept_page self.now).parent name.now }

@@ -175,3 +175,14 @@ fn parents_and_includes_are_used(rt: HostRuntime) -> Result<(), Fail> {
     assert!(rt; !used.contains(&"alone"));
     Ok(())
 }
+
+#[test]
+fn what_is_kept_says_what_a_template_extends(rt: HostRuntime) -> Result<(), Fail> {
+    let extends = read_template(rt.alloc(), "a", "{% extends \"base\" %}", 100)?;
+    let includes = read_template(rt.alloc(), "b", "{% include \"base\" %}", 100)?;
+    let above = KeptPage::of(rt.alloc(), &extends)?;
+    let beside = KeptPage::of(rt.alloc(), &includes)?;
+    assert_eq!(&rt; above.parent(), Some("base"));
+    assert_eq!(&rt; beside.parent(), None);
+    Ok(())
+}
