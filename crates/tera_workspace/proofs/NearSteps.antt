@@ -1,22 +1,29 @@
 -- What the loops that find the documents near one have found so far.
-use Rattle.std.proofs.Common.{◌≡◌, ◌∙◌, ◌∷◌, ◌++◌, ◌+◌, ◌<◌, ◌≤◌, ◌⊎◌, inl, inr, ℕ, zero, suc, List, [], Bor, length, get_or, take, map, Bool, true, false, Option, None, Some, option_map, refl, sym, ap, subst, arith}
+use Rattle.std.proofs.Common.{◌≡◌, ◌∙◌, ◌∷◌, ◌++◌, ◌+◌, ◌<◌, ◌≤◌, ◌⊎◌, inl, inr, ℕ, zero, suc, List, [], Bor, length, get_or, set, take, map, Bool, true, false, cond, Option, None, Some, option_map, refl, sym, ap, subst, arith}
 use Rattle.std.specs.Prelude.{◌||◌, nat_eq, slice_get, is_some}
+use Rattle.std.specs.BTreeSet.{BTreeSet, UpdatesBy, keys}
+use Rattle.std.specs.Cmp.Lexicographic.{slice_cmp}
 use Rattle.std.specs.List.{Contains, flat_map, list_any}
+use Rattle.std.specs.Ordering.{is_eq, nat_cmp}
+use Rattle.std.specs.Str.{bytes_eq}
 use Rattle.std.proofs.lemmas.Bool.Decides.{eqb_tells, leb_tells}
-use Rattle.std.proofs.lemmas.List.{append-nil, length-map, length-take-le, length_push, take_all, take_more}
+use Rattle.std.proofs.lemmas.List.{append-nil, length-map, length-set, length-take-le, length_push, take_all, take_more}
 use Rattle.std.proofs.lemmas.List.Concat.{flat_map-append}
 use Rattle.std.proofs.lemmas.List.Elements.{Contains-append_cases}
+use Rattle.std.proofs.lemmas.Map.Text.{is_eq-slice_cmp}
+use Rattle.std.proofs.lemmas.Slice.Eq.{bytes_eq-Decides}
 use Rattle.std.proofs.lemmas.Option.{get_or_from_slice_get, slice_get-get_or, slice_get_past, slice_get_within}
-use Rattle.tera_site.specs.Kept.{kept_view}
+use Rattle.tera_site.specs.Kept.{kept_page}
 use Rattle.tera_site.specs.Sites.{is_name, number_from, used_names}
-use Rattle.tera_site.proofs.TourLemmas.{in_cases, none_in}
+use Rattle.tera_site.proofs.TourLemmas.{first_in, in_cases, later_in, none_in}
 use Rattle.tera_workspace.specs.Kept.{name_of}
 use Rattle.tera_workspace.specs.KeptSites.{said_in}
-use Rattle.tera_workspace.specs.Near.{Adds, AreInSite, AreNear, AreRight, AreThose, IsOneOf, IsOnlyOther, NoneExtends, number_in, numbers_in, own_lacking, own_name}
+use Rattle.tera_workspace.specs.Names.{contains_name}
+use Rattle.tera_workspace.specs.Near.{Adds, AreInSite, AreNear, AreRight, AreThose, HasOwnBelow, IsOneOf, IsOnlyOther, number_in, numbers_in, own_lacking, own_name, set_each}
 use Rattle.tera_workspace.specs.Sites.{Said, name_below, names_said}
 use Rattle.tera_workspace.specs.declared.judged.Judged.{Judged}
 use Rattle.tera_workspace.specs.declared.sites.KeptDocument.{KeptDocument}
-use Rattle.tera_workspace.proofs.RenewedLemmas.{by_place, name_at, none_some, own_name_is, same_some, seen_at, viewed}
+use Rattle.tera_workspace.proofs.RenewedLemmas.{by_place, each_more, name_at, none_some, same_some, set_there}
 
 -- ---- what an index gives
 
@@ -107,18 +114,6 @@ none_is before now number other is as_many over h = by_place before now (λ k. e
   | inr inside ↦ h.rest k (let p = inside.1 in omega (arith, p, over)) (λ e. none_some k (sym is ∙ e))
 ])
 
--- ---- whether a template extends that of a name
-
-pub none_extends : (root : List ℕ) (at : ℕ) (now : List Said) (name : List ℕ) (number : ℕ) → slice_get (names_said root now) at ≡ Some (Some name) → length now ≤ number
-    → ((k : ℕ) (x : Said) → k < number → slice_get now k ≡ Some x → is_name x.page.parent name ≡ false) → NoneExtends root at now
-none_extends root at now name number named over none q x n here parent is =
-    let same : name ≡ n = same_some name n (same_some (Some name) (Some n) (sym named ∙ name_at (names_said root now) n at is)) in
-    let inside : q < number = (let w = slice_get_within now q x here in omega (arith, w, over)) in
-    no (sym (none q x inside here) ∙ ap (λ o. is_name o name) (parent ∙ ap Some (sym same)) ∙ own_name_is name)
-  where
-    no : false ≡ true → ⊥
-    no e = cc
-
 -- ---- numbers that are added
 
 pub adds_next : (numbered : List ℕ → Option ℕ) (bound : ℕ) (done : List (List ℕ)) (name : List ℕ) (before mid now : List ℕ)
@@ -148,13 +143,13 @@ pushed_same [] x k y is = absurd (none_some y is)
 pushed_same (z ∷ xs) x zero y is = is
 pushed_same (z ∷ xs) x (suc k) y is = pushed_same xs x k y is
 
-pushed_cases : {X : Type 0} (xs : List X) (x : X) (k : ℕ) (y : X) → slice_get (xs ++ x ∷ []) k ≡ Some y → (slice_get xs k ≡ Some y) ⊎ ((k ≡ length xs) × (x ≡ y))
+pub pushed_cases : {X : Type 0} (xs : List X) (x : X) (k : ℕ) (y : X) → slice_get (xs ++ x ∷ []) k ≡ Some y → (slice_get xs k ≡ Some y) ⊎ ((k ≡ length xs) × (x ≡ y))
 pushed_cases [] x zero y is = inr (refl, same_some x y is)
 pushed_cases [] x (suc k) y is = absurd (none_some y is)
 pushed_cases (z ∷ xs) x zero y is = inl is
 pushed_cases (z ∷ xs) x (suc k) y is = elim (pushed_cases xs x k y is) [ inl here ↦ inl here | inr last ↦ inr (ap suc last.0, last.1) ]
 
-pushed_last : {X : Type 0} (xs : List X) (x : X) → slice_get (xs ++ x ∷ []) (length xs) ≡ Some x
+pub pushed_last : {X : Type 0} (xs : List X) (x : X) → slice_get (xs ++ x ∷ []) (length xs) ≡ Some x
 pushed_last [] x = refl
 pushed_last (z ∷ xs) x = pushed_last xs x
 
@@ -195,11 +190,12 @@ number_within root below name number is =
 
 -- ---- those to which a way leads
 
-pub record NearSoFar (root : List ℕ) (saids : List Said) (at : ℕ) (names : List (List ℕ)) (number : ℕ) (near : List ℕ) : Type 0 where
+pub record NearSoFar (root : List ℕ) (saids : List Said) (at : ℕ) (names : List (List ℕ)) (has : List ℕ → Bool) (number : ℕ) (near : List ℕ) : Type 0 where
   pub first : slice_get near 0 ≡ Some at
   pub right : AreRight (length saids) near
   pub closed : (k r : ℕ) (x : Said) (n : List ℕ) (j : ℕ) → k < number → slice_get near k ≡ Some r → slice_get saids r ≡ Some x → Contains (used_names x.page) n → number_in root saids n ≡ Some j → IsOneOf near j
   pub old : (n : List ℕ) (j : ℕ) → Contains names n → number_in root saids n ≡ Some j → IsOneOf near j
+  pub named : (n : List ℕ) (j : ℕ) → has n ≡ true → number_in root saids n ≡ Some j → IsOneOf near j
 
 pub one_right : (bound at : ℕ) → at < bound → AreRight bound (at ∷ [])
 one_right bound at within = record { within = only; once = twice }
@@ -213,20 +209,21 @@ one_right bound at within = record { within = only; once = twice }
     twice (suc k) m n one other = absurd (none_some n one)
     twice zero (suc m) n one other = absurd (none_some n other)
 
-pub near_begun : (root : List ℕ) (saids : List Said) (at bound : ℕ) (names : List (List ℕ)) (start near : List ℕ) → bound ≡ length saids → at < bound → start ≡ at ∷ []
-    → Adds (number_in root saids) bound names start near → NearSoFar root saids at names 0 near
-near_begun root saids at bound names start near same within is h =
-    let begun : Adds (number_in root saids) bound names (at ∷ []) near = subst (λ s. Adds (number_in root saids) bound names s near) is h in
+pub near_begun : (root : List ℕ) (saids : List Said) (at bound : ℕ) (names : List (List ℕ)) (listed : List (List ℕ)) (has : List ℕ → Bool) (start mid near : List ℕ) → bound ≡ length saids → at < bound → start ≡ at ∷ []
+    → Adds (number_in root saids) bound names start mid → Adds (number_in root saids) bound listed mid near → ((n : List ℕ) → has n ≡ true → Contains listed n) → NearSoFar root saids at names has 0 near
+near_begun root saids at bound names listed has start mid near same within is h g there =
+    let begun : Adds (number_in root saids) bound names (at ∷ []) mid = subst (λ s. Adds (number_in root saids) bound names s mid) is h in
     record {
-      first = begun.same 0 at refl;
-      right = subst (λ b. AreRight b near) same (begun.right (one_right bound at within));
+      first = g.same 0 at (begun.same 0 at refl);
+      right = subst (λ b. AreRight b near) same (g.right (begun.right (one_right bound at within)));
       closed = λ k r x n j below. absurd (omega (arith, below));
-      old = begun.all;
+      old = λ n j has_n to. let (k, found) = begun.all n j has_n to in (k, g.same k j found);
+      named = λ n j is_n to. g.all n j (there n is_n) to;
     }
 
-pub near_more : (root : List ℕ) (saids : List Said) (at bound : ℕ) (names : List (List ℕ)) (number next : ℕ) (x : Said) (before now : List ℕ) → bound ≡ length saids → slice_get before number ≡ Some next
-    → slice_get saids next ≡ Some x → NearSoFar root saids at names number before → Adds (number_in root saids) bound (used_names x.page) before now → NearSoFar root saids at names (number + 1) now
-near_more root saids at bound names number next x before now same here says h g = record {
+pub near_more : (root : List ℕ) (saids : List Said) (at bound : ℕ) (names : List (List ℕ)) (has : List ℕ → Bool) (number next : ℕ) (x : Said) (before now : List ℕ) → bound ≡ length saids → slice_get before number ≡ Some next
+    → slice_get saids next ≡ Some x → NearSoFar root saids at names has number before → Adds (number_in root saids) bound (used_names x.page) before now → NearSoFar root saids at names has (number + 1) now
+near_more root saids at bound names listed number next x before now same here says h g = record {
   first = g.same 0 at h.first;
   right = subst (λ b. AreRight b now) same (g.right (subst (λ b. AreRight b before) (sym same) h.right));
   closed = λ k r y n j below is says_y has to.
@@ -244,16 +241,18 @@ near_more root saids at bound names number next x before now same here says h g 
             (m, g.same m j found)
       ];
   old = λ n j has to. let (m, there) = h.old n j has to in (m, g.same m j there);
+  named = λ n j is_n to. let (m, there) = h.named n j is_n to in (m, g.same m j there);
 }
 
-pub near_ended : (root : List ℕ) (saids : List Said) (at : ℕ) (names : List (List ℕ)) (number : ℕ) (near : List ℕ) → length near ≤ number → NearSoFar root saids at names number near → AreNear root saids at names near
-near_ended root saids at names number near over h = record {
+pub near_ended : (root : List ℕ) (saids : List Said) (at : ℕ) (names : List (List ℕ)) (has : List ℕ → Bool) (number : ℕ) (near : List ℕ) → length near ≤ number → NearSoFar root saids at names has number near → AreNear root saids at names has near
+near_ended root saids at names listed number near over h = record {
   first = h.first;
   right = h.right;
   closed = λ r x n j among here has to.
       let (k, is) = among in
       h.closed k r x n j (let w = slice_get_within near k r is in omega (arith, w, over)) is here has to;
   old = h.old;
+  named = h.named;
 }
 
 -- ---- things of these numbers
@@ -291,24 +290,6 @@ those_all near js those number over h = record {
   are = λ k n is. h.are k n (let w = slice_get_within near k n is in omega (arith, w, over)) is;
 }
 
--- ---- what is around those near
-
-abbrev pub SameSoFar : List KeptDocument → List ℕ → List KeptDocument → ℕ → Type 0
-SameSoFar kept near documents number =
-    (k n : ℕ) (d e : KeptDocument) → 0 < k → k < number → slice_get near k ≡ Some n → slice_get kept n ≡ Some d → slice_get documents k ≡ Some e
-    → kept_view d.around ≡ kept_view e.around
-
-pub same_next : (kept : List KeptDocument) (near : List ℕ) (documents : List KeptDocument) (number m : ℕ) (f g : KeptDocument) → slice_get near number ≡ Some m → slice_get kept m ≡ Some f → slice_get documents number ≡ Some g
-    → kept_view f.around ≡ kept_view g.around → SameSoFar kept near documents number → SameSoFar kept near documents (number + 1)
-same_next kept near documents number m f g here was made same h k n d e some below is old new = elim (eqb_tells k number) [
-  | inl equal ↦
-      let n_is : m ≡ n = same_some m n (sym here ∙ sym (ap (slice_get near) equal.1) ∙ is) in
-      let d_is : f ≡ d = same_some f d (sym was ∙ ap (slice_get kept) n_is ∙ old) in
-      let e_is : g ≡ e = same_some g e (sym made ∙ sym (ap (slice_get documents) equal.1) ∙ new) in
-      sym (ap (λ (x : KeptDocument). kept_view x.around) d_is) ∙ same ∙ ap (λ (x : KeptDocument). kept_view x.around) e_is
-  | inr less ↦ h k n d e some (let ne = less.1 in omega (arith, below, ne)) is old new
-]
-
 -- ---- the names that are lacking
 
 pub lacking_more : (ds : List KeptDocument) (number : ℕ) (d : KeptDocument) (before after : List (List ℕ)) → slice_get ds number ≡ Some d → after ≡ before ++ own_lacking d
@@ -319,3 +300,80 @@ lacking_more ds number d before after here put so_far =
     put ∙ (λ i. so_far i ++ own_lacking d) ∙ ap (λ ns. flat_map own_lacking (take number ds) ++ ns) (sym (append-nil (own_lacking d)))
     ∙ sym (flat_map-append own_lacking (take number ds) (d ∷ []))
     ∙ sym (ap (flat_map own_lacking) (take_more ds number d within ∙ ap (λ x. take number ds ++ x ∷ []) is))
+
+-- ---- a set has only its keys
+
+key_next : (n k : List ℕ) (ks : List (List ℕ)) (b rest : Bool) → is_eq (slice_cmp nat_cmp n k) ≡ b → (rest ≡ true → Contains ks n) → (b || rest) ≡ true → Contains (k ∷ ks) n
+key_next n k ks true rest same later h = subst (Contains (k ∷ ks)) (sym ((bytes_eq-Decides n k).0 (sym (is_eq-slice_cmp n k) ∙ same))) (first_in k ks)
+key_next n k ks false rest other later h = later_in k ks n (later h)
+
+among_keys : (n : List ℕ) (ks : List (Bor (List ℕ))) → list_any (λ (k : Bor (List ℕ)). is_eq (slice_cmp nat_cmp n k.now)) ks ≡ true → Contains (map (λ (b : Bor (List ℕ)). b.now) ks) n
+among_keys n [] e = cc
+among_keys n (k ∷ ks) e =
+    key_next n k.now (map (λ (b : Bor (List ℕ)). b.now) ks) (is_eq (slice_cmp nat_cmp n k.now)) (list_any (λ (m : Bor (List ℕ)). is_eq (slice_cmp nat_cmp n m.now)) ks) refl (among_keys n ks) e
+
+pub name_key : (names : BTreeSet (Bor (List ℕ))) (n : List ℕ) → contains_name names n ≡ true → Contains (map (λ (b : Bor (List ℕ)). b.now) (keys names)) n
+name_key names n is = among_keys n (keys names) is
+
+-- a set after a name was put
+pub name_put : (key : Bor (List ℕ)) (s t : BTreeSet (Bor (List ℕ))) → UpdatesBy (λ x y. slice_cmp nat_cmp x.now y.now) (λ k. slice_cmp nat_cmp key.now k.now) s t true
+    → (n : List ℕ) → contains_name t n ≡ cond (bytes_eq key.now n) true (contains_name s n)
+name_put key s t h n = h.0 (record { ref_ptr = (0, 0); now = n }) ∙ ap (λ b. cond b true (contains_name s n)) (is_eq-slice_cmp key.now n)
+
+pub put_has : (key : Bor (List ℕ)) (s t : BTreeSet (Bor (List ℕ))) → UpdatesBy (λ x y. slice_cmp nat_cmp x.now y.now) (λ k. slice_cmp nat_cmp key.now k.now) s t true → contains_name t key.now ≡ true
+put_has key s t h = name_put key s t h key.now ∙ ap (λ b. cond b true (contains_name s key.now)) ((bytes_eq-Decides key.now key.now).1 refl)
+
+pub put_more : (key : Bor (List ℕ)) (s t : BTreeSet (Bor (List ℕ))) → UpdatesBy (λ x y. slice_cmp nat_cmp x.now y.now) (λ k. slice_cmp nat_cmp key.now k.now) s t true
+    → (n : List ℕ) → contains_name s n ≡ true → contains_name t n ≡ true
+put_more key s t h n is = name_put key s t h n ∙ ap (cond (bytes_eq key.now n) true) is ∙ both (bytes_eq key.now n)
+  where
+    both : (b : Bool) → cond b true true ≡ true
+    both true = refl
+    both false = refl
+
+-- what one that extends none of these, or one of them, has
+pub own_none : (root : List ℕ) (has : List ℕ → Bool) (j : Judged) → (kept_page j.page).parent ≡ None → HasOwnBelow root has j
+own_none root has j none n extends is = absurd (none_some n (sym none ∙ extends))
+
+pub own_other : (root : List ℕ) (has : List ℕ → Bool) (j : Judged) (parent : List ℕ) → (kept_page j.page).parent ≡ Some parent → has parent ≡ false → HasOwnBelow root has j
+own_other root has j parent is free n extends listed = absurd (false_true (sym free ∙ ap has (same_some parent n (sym is ∙ extends)) ∙ listed))
+  where
+    false_true : false ≡ true → ⊥
+    false_true e = cc
+
+-- a pass that puts none
+pub pass_next : (root : List ℕ) (js : List Judged) (number : ℕ) (j : Judged) (before now : List ℕ → Bool) → slice_get js number ≡ Some j → ((n : List ℕ) → now n ≡ before n) → HasOwnBelow root now j
+    → ((k : ℕ) (i : Judged) → k < number → slice_get js k ≡ Some i → HasOwnBelow root before i)
+    → (k : ℕ) (i : Judged) → k < number + 1 → slice_get js k ≡ Some i → HasOwnBelow root now i
+pass_next root js number j before now here same own so_far k i below is = elim (eqb_tells k number) [
+  | inl equal ↦ subst (HasOwnBelow root now) (same_some j i (sym here ∙ sym (ap (slice_get js) equal.1) ∙ is)) own
+  | inr less ↦ λ n extends listed.
+      same (own_name root i) ∙ so_far k i (let ne = less.1 in omega (arith, below, ne)) is n extends (sym (same n) ∙ listed)
+]
+
+-- ---- documents that are put in their places
+
+pub record PutSoFar (kept : List KeptDocument) (near : List ℕ) (those : List KeptDocument) (at : ℕ) (documents left : List KeptDocument) : Type 0 where
+  pub put : documents ≡ set_each kept (take at near) (take at those)
+  pub each : length left ≡ length those
+  pub rest : (k : ℕ) → at ≤ k → slice_get left k ≡ slice_get those k
+
+pub put_next : (kept : List KeptDocument) (near : List ℕ) (those : List KeptDocument) (at n : ℕ) (g old : KeptDocument) (documents left now more : List KeptDocument) → length those ≡ length near
+    → slice_get near at ≡ Some n → slice_get left at ≡ Some g → now ≡ set documents n g → more ≡ set left at old → PutSoFar kept near those at documents left → PutSoFar kept near those (at + 1) now more
+put_next kept near those at n g old documents left now more as_many here is put_is more_is h =
+    let in_near : at < length near = slice_get_within near at n here in
+    let in_those : at < length those = omega (arith, in_near, as_many) in
+    let there : slice_get those at ≡ Some g = sym (h.rest at (omega arith)) ∙ is in
+    let more_near : take (at + 1) near ≡ take at near ++ n ∷ [] = take_more near at n in_near ∙ ap (λ x. take at near ++ x ∷ []) (get_or_from_slice_get near at n n here) in
+    let more_those : take (at + 1) those ≡ take at those ++ g ∷ [] = take_more those at g in_those ∙ ap (λ x. take at those ++ x ∷ []) (get_or_from_slice_get those at g g there) in
+    let as_long : length (take at near) ≡ length (take at those) =
+    (let l = length-take-le at near (omega (arith, in_near)) in let m = length-take-le at those (omega (arith, in_those)) in omega (arith, l, m)) in
+    record {
+      put = put_is ∙ ap (λ ds. set ds n g) h.put ∙ sym (each_more kept (take at near) (take at those) n g as_long) ∙ (λ i. set_each kept (sym more_near i) (sym more_those i));
+      each = ap length more_is ∙ length-set left at old ∙ h.each;
+      rest = λ k over. ap (λ ds. slice_get ds k) more_is ∙ set_there left at k old (λ e. omega (arith, over, e)) ∙ h.rest k (omega (arith, over));
+    }
+
+pub put_ended : (kept : List KeptDocument) (near : List ℕ) (those : List KeptDocument) (at : ℕ) (documents left : List KeptDocument) → length those ≡ length near → length near ≤ at → PutSoFar kept near those at documents left
+    → documents ≡ set_each kept near those
+put_ended kept near those at documents left as_many over h = h.put ∙ (λ i. set_each kept (take_all at near over i) (take_all at those (omega (arith, over, as_many)) i))

@@ -11,28 +11,27 @@ use Rattle.std.specs.declared.cmp.Ordering.{Ordering}
 use Rattle.std.specs.declared.cmp.Ordering.TheVariants.{Less, Equal, Greater}
 use Rattle.std.proofs.lemmas.Bool.Decides.{eqb_tells, leb_tells}
 use Rattle.std.proofs.lemmas.List.Elements.{filter-append}
-use Rattle.std.proofs.lemmas.List.{get_or-set_same, get_or-set_other, length-map, length-set, map-set}
+use Rattle.std.proofs.lemmas.List.{append-nil, get_or-set_same, get_or-set_other, length-append, length-map, length-set}
 use Rattle.std.proofs.lemmas.Map.Text.{is_eq-slice_cmp}
 use Rattle.std.proofs.lemmas.Option.{get_or_from_slice_get, slice_get-get_or, slice_get-map, slice_get_past, slice_get_within}
 use Rattle.std.proofs.lemmas.Slice.Eq.{bytes_eq-Decides}
 use Rattle.tera_site.specs.Kept.{AreAboveAlike, around_by, is_one_of, kept_around, kept_page, kept_view, names_missing, on_page}
 use Rattle.tera_site.specs.Pages.{PageVal}
 use Rattle.tera_site.specs.Sites.{AroundVal, IsAround, IsSiteOf, is_name, number_from, site_with, used_names}
-use Rattle.tera_site.proofs.ApartLemmas.{IsAlikeAt, IsClosed, IsParent, NoneExtendsIt, alike_back, around_apart}
+use Rattle.tera_site.proofs.ApartLemmas.{AreAllBelow, IsAlikeAt, IsClosed, alike_back, around_beside}
 use Rattle.tera_site.proofs.NearLemmas.{IsPart, around_near, page_near}
 use Rattle.tera_site.proofs.TourLemmas.{first_in, in_cases, later_in, none_in}
 use Rattle.tera_workspace.specs.Kept.{name_of}
-use Rattle.tera_workspace.specs.KeptSites.{Renews, Ended, Other, Same, around_file, order_of, said_in, said_of}
-use Rattle.tera_workspace.specs.Near.{AreInSite, AreNear, AreSameAround, AreThose, ChangesNone, IsKeptBy, IsNamed, IsOneOf, IsOnlyOther, IsRenewed, NoneExtends, kept_with, number_in, own_lacking}
+use Rattle.tera_workspace.specs.KeptSites.{around_file, said_in, said_of}
+use Rattle.tera_workspace.specs.Near.{AreInSite, AreNear, AreRight, AreThose, ConcernsThese, HaveAllBelow, IsKeptBy, IsOneOf, IsOnlyOther, IsRenewed, kept_now, kept_with, number_in, own_lacking, own_name, set_each}
 use Rattle.tera_workspace.specs.SiteValues.{AroundFile}
 use Rattle.tera_workspace.specs.Sites.{AreRenewed, IsKeptOf, Said, following, is_lacking, name_below, names_lacking, names_said}
 use Rattle.tera_workspace.specs.Sources.{AreInOrder}
 use Rattle.tera_workspace.specs.declared.judged.Judged.{Judged}
 use Rattle.tera_workspace.specs.declared.near.Renewed.{Renewed}
 use Rattle.tera_workspace.specs.declared.sites.KeptDocument.{KeptDocument}
-use Rattle.tera_workspace.proofs.BelowLemmas.{kept_files, said_files}
+use Rattle.tera_workspace.proofs.BelowLemmas.{kept_files}
 use Rattle.tera_workspace.proofs.OrderLemmas.{IsBefore, equal_texts, less_apart, same_text}
-use Rattle.tera_workspace.proofs.RenewsLemmas.{all_renewed}
 
 pub none_some : {X : Type 0} (x : X) → None ≡ Some x → ⊥
 none_some x e = cc
@@ -86,10 +85,10 @@ neither : (m n : ℕ) (ms : List ℕ) → (m ≡ n → ⊥) → (IsOneOf ms n �
 neither m n ms other none (zero, is) = other (same_some m n is)
 neither m n ms other none (suc k, is) = none (k, is)
 
-abbrev Row : List ℕ → ℕ → Type 0
+abbrev pub Row : List ℕ → ℕ → Type 0
 Row ms n = ((k : ℕ) × (slice_get ms k ≡ Some n)) ⊎ (IsOneOf ms n → ⊥)
 
-row : (ms : List ℕ) (n : ℕ) → Row ms n
+pub row : (ms : List ℕ) (n : ℕ) → Row ms n
 row [] n = inr (λ there. none_some n there.1)
 row (m ∷ ms) n = elim (eqb_tells m n) [
   | inl same ↦ inl (0, ap Some same.1)
@@ -164,7 +163,7 @@ file_below root file n is = by (following root file) refl is
     by None e found = absurd (none_some n found)
     by (Some path) e found = front_of root file path e ∙ ap (λ p. root ++ p) (front_of (codes "/") path n found)
 
-before_all : (a b : List ℕ) (ns : List (List ℕ)) (j : ℕ) → IsBefore a ns → slice_get ns j ≡ Some b → slice_cmp nat_cmp a b ≡ Less
+pub before_all : (a b : List ℕ) (ns : List (List ℕ)) (j : ℕ) → IsBefore a ns → slice_get ns j ≡ Some b → slice_cmp nat_cmp a b ≡ Less
 before_all a b [] j before there = absurd (none_some b there)
 before_all a b (n ∷ ns) zero before there = subst (λ m. slice_cmp nat_cmp a m ≡ Less) (same_some n b there) before.0
 before_all a b (n ∷ ns) (suc j) before there = before_all a b ns j before.1 there
@@ -202,15 +201,15 @@ said_same f near js those are k r is =
     slice_get-map f (map said_in those) k ∙ ap (option_map f) (slice_get-map said_in those k ∙ ap (option_map said_in) (are.are k r is) ∙ sym (slice_get-map said_in js r))
     ∙ sym (slice_get-map f (map said_in js) r)
 
-page_closed : (root : List ℕ) (js : List Judged) (at : ℕ) (names : List (List ℕ)) (near : List ℕ) → AreNear root (map said_in js) at names near
+page_closed : (root : List ℕ) (js : List Judged) (at : ℕ) (names : List (List ℕ)) (has : List ℕ → Bool) (near : List ℕ) → AreNear root (map said_in js) at names has near
     → IsClosed (number_in root (map said_in js)) near (pages (map said_in js))
-page_closed root js at names near h r p n j among here has is =
+page_closed root js at names listed near h r p n j among here has is =
     let (x, there, this) = seen_at (λ (s : Said). s.page) (map said_in js) r p here in
     h.closed r x n j among there (subst (λ q. Contains (used_names q) n) (sym this) has) is
 
-part : (root : List ℕ) (js those : List Judged) (at : ℕ) (names : List (List ℕ)) (near : List ℕ) → AreInSite root js → AreNear root (map said_in js) at names near → AreThose near js those
+part : (root : List ℕ) (js those : List Judged) (at : ℕ) (names : List (List ℕ)) (has : List ℕ → Bool) (near : List ℕ) → AreInSite root js → AreNear root (map said_in js) at names has near → AreThose near js those
     → IsPart (names_said root (map said_in js)) (names_said root (map said_in those)) (pages (map said_in js)) (pages (map said_in those)) near
-part root js those at names near site h are =
+part root js those at names listed near site h are =
     let all = names_said root (map said_in js) in
     let own = names_said root (map said_in those) in
     let once : AreOnce all = names_once root js site.ordered in
@@ -230,7 +229,7 @@ part root js those at names near site h are =
           let equal : q ≡ r = once q r n (sym (same m q is_q) ∙ own_m) there in
           (m, is_q ∙ ap Some equal, is_m);
       once = h.right.once;
-      closed = page_closed root js at names near h;
+      closed = page_closed root js at names listed near h;
     }
   where
     at_near : (own : List (Option (List ℕ))) (k : ℕ) (n : List ℕ) → slice_get (names_said root (map said_in those)) k ≡ Some (Some n) → (r : ℕ) × (slice_get near k ≡ Some r)
@@ -304,25 +303,90 @@ pub lacking_kept : (root : List ℕ) (others lacking : List (List ℕ)) (kept : 
 lacking_kept root others lacking kept h =
     h.fits.lacking ∙ sym (lacking_by root others kept (map said_of kept) h.fits.around h.fits.site h.fits.each refl)
 
--- none is lacking, with one that lacks none in the place of another
-both_empty : (xs ys : List (List ℕ)) → xs ++ ys ≡ [] → (xs ≡ []) × (ys ≡ [])
-both_empty [] ys is = (refl, is)
-both_empty (x ∷ xs) ys is = absurd (some_none x (xs ++ ys) is)
-  where
-    some_none : (n : List ℕ) (ns : List (List ℕ)) → n ∷ ns ≡ [] → ⊥
-    some_none n ns e = cc
+-- if one lacks as many as all, no other lacks any
+none_left : (xs : List (List ℕ)) → length xs ≤ 0 → xs ≡ []
+none_left [] short = refl
+none_left (x ∷ xs) short = absurd (omega (arith, short))
 
-pub none_lacking : (ds : List KeptDocument) (at : ℕ) (e : KeptDocument) → flat_map own_lacking ds ≡ [] → own_lacking e ≡ [] → flat_map own_lacking (set ds at e) ≡ []
-none_lacking [] at e all own = refl
-none_lacking (d ∷ ds) zero e all own = (λ i. own i ++ flat_map own_lacking ds) ∙ (both_empty (own_lacking d) (flat_map own_lacking ds) all).1
-none_lacking (d ∷ ds) (suc at) e all own =
-    let (first, rest) = both_empty (own_lacking d) (flat_map own_lacking ds) all in
-    (λ i. first i ++ flat_map own_lacking (set ds at e)) ∙ none_lacking ds at e rest own
+all_by_one : (ds : List KeptDocument) (at : ℕ) (d e : KeptDocument) → slice_get ds at ≡ Some d → length (flat_map own_lacking ds) ≤ length (own_lacking d) → flat_map own_lacking (set ds at e) ≡ own_lacking e
+all_by_one [] at d e here many = absurd (none_some d here)
+all_by_one (x ∷ ds) zero d e here many =
+    let rest : flat_map own_lacking ds ≡ [] = none_left (flat_map own_lacking ds)
+    (let l = length-append (own_lacking x) (flat_map own_lacking ds) in let s = ap (λ (y : KeptDocument). length (own_lacking y)) (same_some x d here) in omega (arith, many, l, s)) in
+    ap (λ ns. own_lacking e ++ ns) rest ∙ append-nil (own_lacking e)
+all_by_one (x ∷ ds) (suc at) d e here many =
+    let l = length-append (own_lacking x) (flat_map own_lacking ds) in
+    let first : own_lacking x ≡ [] = none_left (own_lacking x) (let s = some_length ds at here in omega (arith, many, l, s)) in
+    let f = ap length first in
+    ap (λ ns. ns ++ flat_map own_lacking (set ds at e)) first ∙ all_by_one ds at d e here (omega (arith, many, l, f))
+  where
+    some_length : (ys : List KeptDocument) (k : ℕ) → slice_get ys k ≡ Some d → length (own_lacking d) ≤ length (flat_map own_lacking ys)
+    some_length [] k there = absurd (none_some d there)
+    some_length (y ∷ ys) zero there = (let m = length-append (own_lacking y) (flat_map own_lacking ys) in let s = ap (λ (z : KeptDocument). length (own_lacking z)) (same_some y d there) in omega (arith, m, s))
+    some_length (y ∷ ys) (suc k) there = (let m = length-append (own_lacking y) (flat_map own_lacking ys) in let r = some_length ys k there in omega (arith, m, r))
+
+pub own_all : (ds : List KeptDocument) (at : ℕ) (d e : KeptDocument) (before : List (List ℕ)) → slice_get ds at ≡ Some d → before ≡ flat_map own_lacking ds → length before ≡ length (own_lacking d) → flat_map own_lacking (set ds at e) ≡ own_lacking e
+own_all ds at d e before here all many = all_by_one ds at d e here (let l = ap length all in omega (arith, l, many))
+
+-- ---- documents in the places of others
+
+right_rest : (bound n : ℕ) (near : List ℕ) → AreRight bound (n ∷ near) → AreRight bound near
+right_rest bound n near h = record {
+  within = λ k. h.within (suc k);
+  once = λ k m r one other. (let e = h.once (suc k) (suc m) r one other in omega (arith, e));
+}
+
+not_again : (bound n : ℕ) (near : List ℕ) → AreRight bound (n ∷ near) → IsOneOf near n → ⊥
+not_again bound n near h (k, is) = (let e = h.once 0 (suc k) n refl is in omega (arith, e))
+
+pub each_length : (kept : List KeptDocument) (near : List ℕ) (documents : List KeptDocument) → length (set_each kept near documents) ≡ length kept
+each_length kept [] documents = refl
+each_length kept (n ∷ near) [] = refl
+each_length kept (n ∷ near) (d ∷ documents) = each_length (set kept n d) near documents ∙ length-set kept n d
+
+pub each_rest : (kept : List KeptDocument) (near : List ℕ) (documents : List KeptDocument) (q : ℕ) → (IsOneOf near q → ⊥) → slice_get (set_each kept near documents) q ≡ slice_get kept q
+each_rest kept [] documents q none = refl
+each_rest kept (n ∷ near) [] q none = refl
+each_rest kept (n ∷ near) (d ∷ documents) q none =
+    each_rest (set kept n d) near documents q (λ there. none (suc there.0, there.1)) ∙ set_there kept n q d (λ same. none (0, ap Some (sym same)))
+
+pub each_there : (kept : List KeptDocument) (near : List ℕ) (documents : List KeptDocument) (k q : ℕ) (g : KeptDocument) → AreRight (length kept) near → slice_get near k ≡ Some q → slice_get documents k ≡ Some g
+    → slice_get (set_each kept near documents) q ≡ Some g
+each_there kept [] documents k q g right is here = absurd (none_some q is)
+each_there kept (n ∷ near) [] k q g right is here = absurd (none_some g here)
+each_there kept (n ∷ near) (d ∷ documents) zero q g right is here =
+    let same : n ≡ q = same_some n q is in
+    each_rest (set kept n d) near documents q (λ there. not_again (length kept) n near right (subst (IsOneOf near) (sym same) there))
+    ∙ ap (slice_get (set kept n d)) (sym same) ∙ set_here kept n d (right.within 0 n refl) ∙ here
+each_there kept (n ∷ near) (d ∷ documents) (suc k) q g right is here =
+    each_there (set kept n d) near documents k q g (subst (λ b. AreRight b near) (sym (length-set kept n d)) (right_rest (length kept) n near right)) is here
+
+pub each_more : (kept : List KeptDocument) (near : List ℕ) (documents : List KeptDocument) (n : ℕ) (d : KeptDocument) → length near ≡ length documents
+    → set_each kept (near ++ n ∷ []) (documents ++ d ∷ []) ≡ set (set_each kept near documents) n d
+each_more kept [] [] n d same = refl
+each_more kept [] (e ∷ documents) n d same = absurd (omega (arith, same))
+each_more kept (m ∷ near) [] n d same = absurd (omega (arith, same))
+each_more kept (m ∷ near) (e ∷ documents) n d same = each_more (set kept m e) near documents n d (omega (arith, same))
+
+-- ---- names of templates
+
+own_there : (root : List ℕ) (js : List Judged) (q : ℕ) (j : Judged) → AreInSite root js → slice_get js q ≡ Some j → slice_get (names_said root (map said_in js)) q ≡ Some (Some (own_name root j))
+own_there root js q j site here =
+    viewed (λ (s : Said). name_below root s.file) (map said_in js) q (said_in j) (viewed said_in js q j here) ∙ ap Some (by (name_below root (name_of j)) (site.below q j here))
+  where
+    by : (o : Option (List ℕ)) → is_some o ≡ true → o ≡ Some (unwrap_or o [])
+    by None e = absurd (no_way e)
+    by (Some n) e = refl
+
+same_files : (before now : List Said) → ((k : ℕ) → option_map (λ (x : Said). x.file) (slice_get before k) ≡ option_map (λ (x : Said). x.file) (slice_get now k)) → map (λ (x : Said). x.file) before ≡ map (λ (x : Said). x.file) now
+same_files before now files = by_place (map (λ (x : Said). x.file) before) (map (λ (x : Said). x.file) now) (λ k.
+    slice_get-map (λ (x : Said). x.file) before k ∙ files k ∙ sym (slice_get-map (λ (x : Said). x.file) now k))
 
 module _ (root : List ℕ) (others : List (List ℕ)) (kept : List KeptDocument) (js those : List Judged) (at : ℕ) (near : List ℕ) (documents : List KeptDocument) (d e : KeptDocument) (lacking lacked : List (List ℕ))
-    (site : AreInSite root js) (other : IsOnlyOther at (map said_of kept) (map said_in js)) (by_kept : IsKeptBy root others lacking kept) (changes : ChangesNone root at (map said_of kept) (map said_in js))
-    (was : slice_get kept at ≡ Some d) (are_near : AreNear root (map said_in js) at (used_names (kept_page d.page)) near) (are : AreThose near js those)
-    (small : IsKeptOf (kept_with root others lacked documents) (map said_in those)) (said : map said_of documents ≡ map said_in those) (same : AreSameAround kept near documents)
+    (listed : List ℕ → Bool)
+    (site : AreInSite root js) (other : IsOnlyOther at (map said_of kept) (map said_in js)) (by_kept : IsKeptBy root others lacking kept) (concerns : ConcernsThese root at (map said_of kept) js listed)
+    (was : slice_get kept at ≡ Some d) (are_near : AreNear root (map said_in js) at (used_names (kept_page d.page)) listed near) (are : AreThose near js those)
+    (small : IsKeptOf (kept_with root others lacked documents) (map said_in those)) (said : map said_of documents ≡ map said_in those)
     (made : slice_get documents 0 ≡ Some e) where
   abbrev now : List Said
   now = map said_in js
@@ -348,8 +412,40 @@ module _ (root : List ℕ) (others : List (List ℕ)) (kept : List KeptDocument)
       slice_get-map said_in js at ∙ ap (option_map said_in) (sym (are.are 0 at are_near.first)) ∙ sym (slice_get-map said_in those 0)
       ∙ ap (λ xs. slice_get xs 0) (sym said) ∙ viewed said_of documents 0 e made
 
-  pub all_said : map said_of (set kept at e) ≡ now
-  all_said = replaced kept js at e within other says
+  with_one : map said_of (set kept at e) ≡ now
+  with_one = replaced kept js at e within other says
+
+  pub as_many : length documents ≡ length near
+  as_many = sym (length-map documents said_of) ∙ ap length said ∙ length-map those said_in ∙ are.each
+
+  pub right : AreRight (length kept) near
+  right = subst (λ n. AreRight n near) (sym other.each ∙ length-map kept said_of) are_near.right
+
+  abbrev news : List KeptDocument
+  news = set_each kept near documents
+
+  not_near : (q : ℕ) → (IsOneOf near q → ⊥) → q ≡ at → ⊥
+  not_near q none is = none (subst (IsOneOf near) (sym is) (0, are_near.first))
+
+  -- of each near one there is something new
+  new_of : (q k : ℕ) → slice_get near k ≡ Some q → (h : KeptDocument) × (slice_get documents k ≡ Some h) × (slice_get news q ≡ Some h)
+  new_of q k is =
+      let within_k : k < length documents = (let w = slice_get_within near k q is in omega (arith, w, as_many)) in
+      let h = get_or documents k e in
+      let here : slice_get documents k ≡ Some h = slice_get-get_or documents k e within_k in
+      (h, here, each_there kept near documents k q h right is here)
+
+  pub all_said : map said_of news ≡ now
+  all_said = by_place (map said_of news) now (λ q. by q (row near q))
+    where
+      by : (q : ℕ) → Row near q → slice_get (map said_of news) q ≡ slice_get now q
+      by q (inl (k, is)) =
+          let (h, here, there) = new_of q k is in
+          viewed said_of news q h there ∙ sym (viewed said_of documents k h here) ∙ ap (λ xs. slice_get xs k) said
+          ∙ slice_get-map said_in those k ∙ ap (option_map said_in) (are.are k q is) ∙ sym (slice_get-map said_in js q)
+      by q (inr none) =
+          slice_get-map said_of news q ∙ ap (option_map said_of) (each_rest kept near documents q none) ∙ sym (slice_get-map said_of kept q)
+          ∙ other.rest q (not_near q none)
 
   rest : (q : ℕ) → (q ≡ at → ⊥) → slice_get (pages before) q ≡ slice_get (pages now) q
   rest q apart =
@@ -360,19 +456,13 @@ module _ (root : List ℕ) (others : List (List ℕ)) (kept : List KeptDocument)
   had p here = same_some (kept_page d.page) p (sym (viewed (λ (s : Said). s.page) before at (said_of d) (viewed said_of kept at d was)) ∙ here)
 
   still : IsClosed named near (pages now)
-  still = page_closed root js at (used_names (kept_page d.page)) near are_near
+  still = page_closed root js at (used_names (kept_page d.page)) listed near are_near
 
   closed : IsClosed named near (pages before)
   closed r p n j among here has is = elim (eqb_tells r at) [
     | inl equal ↦ are_near.old n j (subst (λ q. Contains (used_names q) n) (sym (had p (ap (slice_get (pages before)) (sym equal.1) ∙ here))) has) is
     | inr apart ↦ still r p n j among (sym (rest r apart.1) ∙ here) has is
   ]
-
-  none_now : NoneExtends root at now → (q : ℕ) (p : PageVal) → slice_get (pages now) q ≡ Some p → IsParent named at p → ⊥
-  none_now none q p here extends =
-      let (x, there, this) = seen_at (λ (s : Said). s.page) now q p here in
-      let (n, parent, is) = extends in
-      none q x n there (ap (λ (y : PageVal). y.parent) this ∙ parent) is
 
   page_now : slice_get (pages now) at ≡ Some (kept_page e.page)
   page_now = viewed (λ (s : Said). s.page) now at (said_of e) says
@@ -390,16 +480,43 @@ module _ (root : List ℕ) (others : List (List ℕ)) (kept : List KeptDocument)
     subst (λ q. AreAboveAlike q (kept_page d.page)) (same_some (kept_page e.page) p (sym page_now ∙ here)) (alike_back (kept_page d.page) (kept_page e.page) alike),
   )
 
-  changes_there : IsAlikeAt at (pages before) (pages now) ⊎ NoneExtendsIt named at (pages before)
-  changes_there = elim changes [
+  -- those that extend it
+  abbrev under : ℕ → Type 0
+  under q = (j : Judged) × (slice_get js q ≡ Some j) × (listed (own_name root j) ≡ true)
+
+  inside : (q : ℕ) → under q → IsOneOf near q
+  inside q (j, here, is) = are_near.named (own_name root j) q is (number_at names (names_once root js site.ordered) (own_name root j) q (own_there root js q j site here))
+
+  all_under : HaveAllBelow root at js listed → AreAllBelow named at (pages now) under
+  all_under below = record {
+    own = let (j, here, this) = seen_at said_in js at (said_of e) says in (j, here, below.own j here);
+    all = λ q i p n here extends is has.
+        let (x, there, this) = seen_at (λ (s : Said). s.page) now q p here in
+        let (j, at_j, says_x) = seen_at said_in js q x there in
+        let (g, at_g, listed_g) = has in
+        let same : n ≡ own_name root g = same_some n (own_name root g) (same_some (Some n) (Some (own_name root g)) (sym (name_at names n i is) ∙ own_there root js i g site at_g)) in
+        (j, at_j, below.all q j at_j n (ap (λ (s : Said). s.page.parent) says_x ∙ ap (λ (y : PageVal). y.parent) this ∙ extends) (subst (λ m. listed m ≡ true) (sym same) listed_g));
+  }
+
+  all_before : AreAllBelow named at (pages now) under → AreAllBelow named at (pages before) under
+  all_before h = record {
+    own = h.own;
+    all = λ q i p n here extends is has. elim (eqb_tells q at) [
+      | inl equal ↦ subst under (sym equal.1) h.own
+      | inr apart ↦ h.all q i p n (sym (rest q apart.1) ∙ here) extends is has
+    ];
+  }
+
+  changes_there : IsAlikeAt at (pages before) (pages now) ⊎ AreAllBelow named at (pages before) under
+  changes_there = elim concerns [
     | inl alike ↦ inl (alike_there (alike (said_of d) (said_of e) (viewed said_of kept at d was) says))
-    | inr none ↦ inr (λ q p apart here extends. none_now none q p (sym (rest q apart) ∙ here) extends)
+    | inr below ↦ inr (all_before (all_under below))
   ]
 
-  changes_back : IsAlikeAt at (pages now) (pages before) ⊎ NoneExtendsIt named at (pages now)
-  changes_back = elim changes [
+  changes_back : IsAlikeAt at (pages now) (pages before) ⊎ AreAllBelow named at (pages now) under
+  changes_back = elim concerns [
     | inl alike ↦ inl (alike_before (alike (said_of d) (said_of e) (viewed said_of kept at d was) says))
-    | inr none ↦ inr (λ q p apart here extends. none_now none q p here extends)
+    | inr below ↦ inr (all_under below)
   ]
 
   -- around each
@@ -417,16 +534,15 @@ module _ (root : List ℕ) (others : List (List ℕ)) (kept : List KeptDocument)
   old_site = subst (λ ns. IsSiteOf ns (is_one_of others) (pages before) old) (same_names root at before now other) by_kept.fits.site
 
   is_part : IsPart names (names_said root (map said_in those)) (pages now) (pages (map said_in those)) near
-  is_part = part root js those at (used_names (kept_page d.page)) near site are_near are
+  is_part = part root js those at (used_names (kept_page d.page)) listed near site are_near are
 
   site_by : (q : ℕ) (p : PageVal) (r : Row near q) → slice_get (pages now) q ≡ Some p → IsAround (site_with names (pages now)) (is_one_of others) q p (chosen q r)
   site_by q p (inl here) there =
       around_near names (names_said root (map said_in those)) (pages now) (pages (map said_in those)) near is_part (is_one_of others) here.0 q p (small.around here.0) here.1 there
       (small.site here.0 p (is_part.same here.0 q here.1 ∙ there))
   site_by q p (inr none) there =
-      let away = λ (is : q ≡ at). none (subst (IsOneOf near) (sym is) (0, are_near.first)) in
-      let here : slice_get (pages before) q ≡ Some p = rest q away ∙ there in
-      around_apart names (is_one_of others) at near (pages before) (pages now) (0, are_near.first) rest closed still changes_there changes_back q p (old q) none here (old_site q p here)
+      let here : slice_get (pages before) q ≡ Some p = rest q (not_near q none) ∙ there in
+      around_beside names (is_one_of others) at near (pages before) (pages now) (0, are_near.first) rest closed still under inside changes_there changes_back q p (old q) none here (old_site q p here)
 
   is_site : IsSiteOf names (is_one_of others) (pages now) around
   is_site q p there = site_by q p (row near q) there
@@ -435,110 +551,66 @@ module _ (root : List ℕ) (others : List (List ℕ)) (kept : List KeptDocument)
   fresh : (k : ℕ) (x : Said) (g : KeptDocument) → slice_get documents k ≡ Some g → slice_get (map said_in those) k ≡ Some x → around_by (kept_view g.around) ≡ on_page x.page (small.around k)
   fresh k x g is here = small.each k x (around_file g) here (viewed around_file documents k g is)
 
-  not_first : (k q : ℕ) → slice_get near k ≡ Some q → (q ≡ at → ⊥) → 0 < k
-  not_first zero q is apart = absurd (apart (same_some q at (sym is ∙ are_near.first)))
-  not_first (suc k) q is apart = omega arith
-
-  kept_near : (q k : ℕ) (x : Said) (g : KeptDocument) → slice_get near k ≡ Some q → slice_get now q ≡ Some x → slice_get (set kept at e) q ≡ Some g → around_by (kept_view g.around) ≡ on_page x.page (small.around k)
-  kept_near q k x g is here there =
-      let as_many : length documents ≡ length near = sym (length-map documents said_of) ∙ ap length said ∙ length-map those said_in ∙ are.each in
-      let within_k : k < length documents = (let w = slice_get_within near k q is in omega (arith, w, as_many)) in
-      let h = get_or documents k e in
-      let is_h : slice_get documents k ≡ Some h = slice_get-get_or documents k e within_k in
-      let says_x : slice_get (map said_in those) k ≡ Some x = slice_get-map said_in those k ∙ ap (option_map said_in) (are.are k q is) ∙ sym (slice_get-map said_in js q) ∙ here in
-      elim (eqb_tells q at) [
-        | inl equal ↦
-            let first : k ≡ 0 = are_near.right.once k 0 at (is ∙ ap Some equal.1) are_near.first in
-            let g_is : e ≡ g = same_some e g (sym (set_here kept at e within) ∙ sym (ap (slice_get (set kept at e)) equal.1) ∙ there) in
-            subst (λ y. around_by (kept_view y.around) ≡ on_page x.page (small.around k)) g_is
-            (fresh k x e (ap (slice_get documents) first ∙ made) says_x)
-        | inr apart ↦
-            let old_g : slice_get kept q ≡ Some g = sym (set_there kept at q e apart.1) ∙ there in
-            ap around_by (same k q g h (not_first k q is apart.1) is old_g is_h) ∙ fresh k x h is_h says_x
-      ]
-
-  each_by : (q : ℕ) (x : Said) (g : KeptDocument) (r : Row near q) → slice_get now q ≡ Some x → slice_get (set kept at e) q ≡ Some g → around_by (kept_view g.around) ≡ on_page x.page (chosen q r)
-  each_by q x g (inl here) says_x there =
-      kept_near q here.0 x g here.1 says_x there
-      ∙ page_near names (names_said root (map said_in those)) (pages now) (pages (map said_in those)) near is_part (is_one_of others) here.0 q x.page (small.around here.0) here.1
+  near_each : (q k : ℕ) (x : Said) (g : KeptDocument) → slice_get near k ≡ Some q → slice_get now q ≡ Some x → slice_get documents k ≡ Some g
+      → around_by (kept_view g.around) ≡ on_page x.page (record (small.around k) { has = both_has })
+  near_each q k x g is says_x here =
+      fresh k x g here (slice_get-map said_in those k ∙ ap (option_map said_in) (are.are k q is) ∙ sym (slice_get-map said_in js q) ∙ says_x)
+      ∙ page_near names (names_said root (map said_in those)) (pages now) (pages (map said_in those)) near is_part (is_one_of others) k q x.page (small.around k) is
       (viewed (λ (s : Said). s.page) now q x says_x)
-      (λ n. (small.site here.0 x.page (is_part.same here.0 q here.1 ∙ viewed (λ (s : Said). s.page) now q x says_x)).has n)
-  each_by q x g (inr none) says_x there =
-      let away = λ (is : q ≡ at). none (subst (IsOneOf near) (sym is) (0, are_near.first)) in
-      let old_g : slice_get kept q ≡ Some g = sym (set_there kept at q e away) ∙ there in
-      by_kept.fits.each q x (around_file g) (other.rest q away ∙ says_x) (viewed around_file kept q g old_g)
+      (λ n. (small.site k x.page (is_part.same k q is ∙ viewed (λ (s : Said). s.page) now q x says_x)).has n)
 
-  each : (q : ℕ) (x : Said) (f : AroundFile) → slice_get now q ≡ Some x → slice_get (map around_file (set kept at e)) q ≡ Some f → around_by f.around ≡ on_page x.page (around q)
+  each_by : (q : ℕ) (x : Said) (g : KeptDocument) (r : Row near q) → slice_get now q ≡ Some x → slice_get news q ≡ Some g → around_by (kept_view g.around) ≡ on_page x.page (chosen q r)
+  each_by q x g (inl here) says_x there =
+      let (h, is_h, new) = new_of q here.0 here.1 in
+      near_each q here.0 x g here.1 says_x (is_h ∙ sym new ∙ there)
+  each_by q x g (inr none) says_x there =
+      by_kept.fits.each q x (around_file g) (other.rest q (not_near q none) ∙ says_x) (viewed around_file kept q g (sym (each_rest kept near documents q none) ∙ there))
+
+  each : (q : ℕ) (x : Said) (f : AroundFile) → slice_get now q ≡ Some x → slice_get (map around_file news) q ≡ Some f → around_by f.around ≡ on_page x.page (around q)
   each q x f here there =
-      let (g, is, this) = seen_at around_file (set kept at e) q f there in
+      let (g, is, this) = seen_at around_file news q f there in
       ap (λ (y : AroundFile). around_by y.around) (sym this) ∙ each_by q x g (row near q) here is
 
-  pub all_fits : (lack : List (List ℕ)) → lack ≡ flat_map own_lacking (set kept at e) → IsKeptOf (kept_with root others lack (set kept at e)) now
+  -- what each lacks
+  lacks_by : (p : PageVal) (b a : AroundVal) → b ≡ on_page p a → ((n : List ℕ) → a.has n ≡ both_has n) → (n : List ℕ) → Contains (used_names p) n → not (b.has n) ≡ is_lacking names others n
+  lacks_by p b a is has n used = ap not (ap (λ (x : AroundVal). x.has n) is ∙ ap (λ t. t && a.has n) (in_one_of n (used_names p) used) ∙ has n)
+
+  lacks_each : (q : ℕ) (g : KeptDocument) → slice_get (set kept at e) q ≡ Some g → (n : List ℕ) → Contains (used_names (kept_page g.page)) n → not ((kept_around g.around).has n) ≡ is_lacking names others n
+  lacks_each q g there = elim (eqb_tells q at) [
+    | inl equal ↦
+        let g_is : e ≡ g = same_some e g (sym (set_here kept at e within) ∙ sym (ap (slice_get (set kept at e)) equal.1) ∙ there) in
+        subst (λ (y : KeptDocument). (n : List ℕ) → Contains (used_names (kept_page y.page)) n → not ((kept_around y.around).has n) ≡ is_lacking names others n) g_is
+        (lacks_by (kept_page e.page) (kept_around e.around) (record (small.around 0) { has = both_has }) (near_each at 0 (said_of e) e are_near.first says made) (λ n. refl))
+    | inr apart ↦
+        let old_g : slice_get kept q ≡ Some g = sym (set_there kept at q e apart.1) ∙ there in
+        let says_g : slice_get before q ≡ Some (said_of g) = viewed said_of kept q g old_g in
+        lacks_by (kept_page g.page) (kept_around g.around) (old q) (by_kept.fits.each q (said_of g) (around_file g) says_g (viewed around_file kept q g old_g))
+        (old_site q (kept_page g.page) (viewed (λ (s : Said). s.page) before q (said_of g) says_g)).has
+  ]
+
+  pub all_fits : (lack : List (List ℕ)) → lack ≡ flat_map own_lacking (set kept at e) → IsKeptOf (kept_with root others lack news) now
   all_fits lack is = record {
     around = around;
     site = is_site;
-    files = kept_files (set kept at e) ∙ ap (map (λ (s : Said). s.file)) all_said;
+    files = kept_files news ∙ ap (map (λ (s : Said). s.file)) all_said;
     each = each;
-    lacking = is ∙ lacking_by root others (set kept at e) now around is_site each all_said;
+    lacking = is ∙ lacking_all (is_lacking names others) (set kept at e) lacks_each ∙ ap (λ xs. filter (is_lacking names others) (flat_map used_names (pages xs))) with_one;
   }
 
--- ---- the name of the document, if something else is around its template
+  pub files_same : map (λ (x : AroundFile). x.file) (map around_file news) ≡ map (λ (x : AroundFile). x.file) (map around_file kept)
+  files_same = kept_files news ∙ ap (map (λ (s : Said). s.file)) all_said ∙ sym (same_files before now other.files) ∙ sym (kept_files kept)
 
-equal_by : (o : Ordering) → is_eq o ≡ true → o ≡ Equal
-equal_by Less e = absurd (no_way e)
-equal_by Equal e = refl
-equal_by Greater e = absurd (no_way e)
-
-equal_to : (a : List ℕ) → slice_cmp nat_cmp a a ≡ Equal
-equal_to a = equal_by (slice_cmp nat_cmp a a) (is_eq-slice_cmp a a ∙ same_text a)
-
-renews_none : (ds : List AroundFile) → Renews ds ds []
-renews_none [] = Ended
-renews_none (d ∷ ds) = Same d d ds ds [] (equal_to d.file) refl (renews_none ds)
-
-module _ (d e : KeptDocument) (names : List (List ℕ)) (file : string_bytes d.file ≡ string_bytes e.file) (is_named : IsNamed d e names) where
-  order : (ds es : List AroundFile) → order_of (around_file d ∷ ds) (around_file e ∷ es) ≡ Equal
-  order ds es = ap (slice_cmp nat_cmp (string_bytes d.file)) (sym file) ∙ equal_to (string_bytes d.file)
-
-  pub renews_at : (kept : List KeptDocument) (at : ℕ) → slice_get kept at ≡ Some d → Renews (map around_file kept) (map around_file (set kept at e)) names
-  renews_at [] at was = absurd (none_some d was)
-  renews_at (k ∷ ks) (suc at) was = Same (around_file k) (around_file k) (map around_file ks) (map around_file (set ks at e)) names (equal_to (string_bytes k.file)) refl (renews_at ks at was)
-  renews_at (k ∷ ks) zero was = subst (λ x. Renews (around_file x ∷ map around_file ks) (around_file e ∷ map around_file ks) names) (sym (same_some k d was)) (elim is_named [
-    | inl same ↦ subst (Renews (around_file d ∷ map around_file ks) (around_file e ∷ map around_file ks)) (sym same.1)
-        (Same (around_file d) (around_file e) (map around_file ks) (map around_file ks) [] (order (map around_file ks) (map around_file ks)) same.0 (renews_none (map around_file ks)))
-    | inr apart ↦ subst (Renews (around_file d ∷ map around_file ks) (around_file e ∷ map around_file ks)) (sym (apart.1 ∙ ap (λ f. f ∷ []) file))
-        (Other (around_file d) (around_file e) (map around_file ks) (map around_file ks) [] (order (map around_file ks) (map around_file ks)) apart.0 (renews_none (map around_file ks)))
-  ])
-
--- ---- all of it
-
-module _ (root : List ℕ) (others : List (List ℕ)) (kept : List KeptDocument) (js those : List Judged) (at : ℕ) (near : List ℕ) (documents : List KeptDocument) (d e : KeptDocument) (lacking lacked : List (List ℕ))
-    (site : AreInSite root js) (other : IsOnlyOther at (map said_of kept) (map said_in js)) (by_kept : IsKeptBy root others lacking kept) (changes : ChangesNone root at (map said_of kept) (map said_in js))
-    (was : slice_get kept at ≡ Some d) (are_near : AreNear root (map said_in js) at (used_names (kept_page d.page)) near) (are : AreThose near js those)
-    (small : IsKeptOf (kept_with root others lacked documents) (map said_in those)) (said : map said_of documents ≡ map said_in those) (same : AreSameAround kept near documents)
-    (made : slice_get documents 0 ≡ Some e) where
-  says_now : map said_of (set kept at e) ≡ map said_in js
-  says_now = all_said root others kept js those at near documents d e lacking lacked site other by_kept changes was are_near are small said same made
-
-  same_file : string_bytes d.file ≡ string_bytes e.file
-  same_file =
-      same_some (string_bytes d.file) (string_bytes e.file)
-      (sym (ap (option_map (λ (x : Said). x.file)) (viewed said_of kept at d was)) ∙ other.files at
-      ∙ ap (option_map (λ (x : Said). x.file)) (ap (λ xs. slice_get xs at) (sym says_now) ∙ viewed said_of (set kept at e) at e (set_here kept at e (slice_get_within kept at d was))))
-
-  still_ordered : AreInOrder (map (λ (x : AroundFile). x.file) (map around_file (set kept at e)))
-  still_ordered = subst AreInOrder (sym (kept_files (set kept at e) ∙ ap (map (λ (x : Said). x.file)) says_now ∙ said_files js)) site.ordered
-
-  pub renewed_is : (r : Renewed) → r.document ≡ e → map string_bytes r.lacking.items ≡ flat_map own_lacking (set kept at e) → IsNamed d e (map string_bytes r.names.items) → IsRenewed root others kept js at r
-  renewed_is r is lacks named = record {
-    within = slice_get_within kept at d was;
-    said = ap (λ x. map said_of (set kept at x)) is ∙ says_now;
-    fits = subst (λ x. IsKeptOf (kept_with root others (map string_bytes r.lacking.items) (set kept at x)) (map said_in js)) (sym is)
-        (all_fits root others kept js those at near documents d e lacking lacked site other by_kept changes was are_near are small said same made (map string_bytes r.lacking.items) lacks);
-    names = subst (λ x. AreRenewed (map string_bytes r.names.items) (map around_file kept) (map around_file (set kept at x))) (sym is)
-        (all_renewed (map around_file kept) (map around_file (set kept at e)) (map string_bytes r.names.items) (renews_at d e (map string_bytes r.names.items) same_file named kept at was)
-        by_kept.ordered still_ordered);
-  }
+  pub renewed_is : (r : Renewed) → r.near.items ≡ near → r.documents.items ≡ documents → map string_bytes r.lacking.items ≡ flat_map own_lacking (set kept at e)
+      → AreRenewed (map string_bytes r.names.items) (map around_file kept) (map around_file news) → IsRenewed root others kept js r
+  renewed_is r near_is documents_is lacks renewed =
+      let all : kept_now kept r ≡ news = (λ i. set_each kept (near_is i) (documents_is i)) in
+      record {
+        near = subst (AreRight (length kept)) (sym near_is) right;
+        each = ap length documents_is ∙ as_many ∙ sym (ap length near_is);
+        said = ap (map said_of) all ∙ all_said;
+        fits = subst (λ ds. IsKeptOf (kept_with root others (map string_bytes r.lacking.items) ds) (map said_in js)) (sym all) (all_fits (map string_bytes r.lacking.items) lacks);
+        names = subst (λ ds. AreRenewed (map string_bytes r.names.items) (map around_file kept) (map around_file ds)) (sym all) renewed;
+      }
 
 -- ---- bounds
 

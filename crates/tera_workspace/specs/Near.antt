@@ -1,5 +1,6 @@
--- One document of a site that says something else than before, and those to which a way leads from it.
-use Rattle.std.specs.Prelude.{◌≡◌, ◌≢◌, ◌<◌, ◌⊎◌, ℕ, List, [], ◌∷◌, true, Option, Some, unwrap_or, is_some, option_map, length, map, set, slice_get, string_bytes}
+-- One document of a site that says something else than before, those that extend it, and those to which a way leads from
+-- one of these.
+use Rattle.std.specs.Prelude.{◌≡◌, ◌≢◌, ◌<◌, ◌⊎◌, ℕ, List, [], ◌∷◌, Bool, true, Option, Some, unwrap_or, is_some, option_map, length, map, set, slice_get, string_bytes}
 use Rattle.std.specs.List.{Contains}
 use Rattle.tera_site.specs.Kept.{AreAboveAlike, kept_around, kept_page, kept_view, names_missing}
 use Rattle.tera_site.specs.Sites.{number_from, used_names}
@@ -45,16 +46,22 @@ IsDifference before now differences.Same = before ≡ now
 IsDifference before now (differences.One at) = IsOnlyOther at before now
 IsDifference before now differences.Any = Unit {0}
 
--- no other template extends that of a number
-abbrev pub NoneExtends : List ℕ → ℕ → List Said → Type 0
-NoneExtends root at saids = (q : ℕ) (x : Said) (n : List ℕ) → slice_get saids q ≡ Some x → x.page.parent ≡ Some n → number_in root saids n ≡ Some at → ⊥
-
 -- it says the same to those that extend it
 abbrev pub AreAlikeAt : ℕ → List Said → List Said → Type 0
 AreAlikeAt at before now = (x y : Said) → slice_get before at ≡ Some x → slice_get now at ≡ Some y → AreAboveAlike x.page y.page
 
-abbrev pub ChangesNone : List ℕ → ℕ → List Said → List Said → Type 0
-ChangesNone root at before now = AreAlikeAt at before now ⊎ NoneExtends root at now
+-- the name of a template is one of some, if it extends one of these
+abbrev pub HasOwnBelow : List ℕ → (List ℕ → Bool) → Judged → Type 0
+HasOwnBelow root has j = (n : List ℕ) → (kept_page j.page).parent ≡ Some n → has n ≡ true → has (own_name root j) ≡ true
+
+-- that of a number is one of them, and so are those of all that extend it, directly or indirectly
+pub record HaveAllBelow (root : List ℕ) (at : ℕ) (js : List Judged) (has : List ℕ → Bool) : Type 0 where
+  pub own : (j : Judged) → slice_get js at ≡ Some j → has (own_name root j) ≡ true
+  pub all : (number : ℕ) (j : Judged) → slice_get js number ≡ Some j → HasOwnBelow root has j
+
+-- above other templates there is what was there
+abbrev pub ConcernsThese : List ℕ → ℕ → List Said → List Judged → (List ℕ → Bool) → Type 0
+ConcernsThese root at before js has = AreAlikeAt at before (map said_in js) ⊎ HaveAllBelow root at js has
 
 -- ---- those to which a way leads
 
@@ -72,32 +79,46 @@ pub record Adds (numbered : List ℕ → Option ℕ) (bound : ℕ) (names : List
   pub right : AreRight bound before → AreRight bound now
   pub all : (name : List ℕ) (n : ℕ) → Contains names name → numbered name ≡ Some n → IsOneOf now n
 
--- the number of one, and those of all to which a way leads from it; and those of some names
-pub record AreNear (root : List ℕ) (saids : List Said) (at : ℕ) (names : List (List ℕ)) (near : List ℕ) : Type 0 where
+-- the number of one, those of some names, and those of all to which a way leads from these, now or by these names
+pub record AreNear (root : List ℕ) (saids : List Said) (at : ℕ) (names : List (List ℕ)) (has : List ℕ → Bool) (near : List ℕ) : Type 0 where
   pub first : slice_get near 0 ≡ Some at
   pub right : AreRight (length saids) near
   pub closed : (r : ℕ) (x : Said) (n : List ℕ) (j : ℕ) → IsOneOf near r → slice_get saids r ≡ Some x → Contains (used_names x.page) n → number_in root saids n ≡ Some j → IsOneOf near j
   pub old : (n : List ℕ) (j : ℕ) → Contains names n → number_in root saids n ≡ Some j → IsOneOf near j
+  pub named : (n : List ℕ) (j : ℕ) → has n ≡ true → number_in root saids n ≡ Some j → IsOneOf near j
 
 -- things of these numbers
 pub record AreThose (near : List ℕ) (js those : List Judged) : Type 0 where
   pub each : length those ≡ length near
   pub are : (k n : ℕ) → slice_get near k ≡ Some n → slice_get those k ≡ slice_get js n
 
-abbrev pub AreSameAround : List KeptDocument → List ℕ → List KeptDocument → Type 0
-AreSameAround kept near documents =
-    (k n : ℕ) (d e : KeptDocument) → 0 < k → slice_get near k ≡ Some n → slice_get kept n ≡ Some d → slice_get documents k ≡ Some e
-    → kept_view d.around ≡ kept_view e.around
+-- these in the places of those of some numbers
+abbrev pub set_each : List KeptDocument → List ℕ → List KeptDocument → List KeptDocument
+set_each kept [] documents = kept
+set_each kept (n ∷ near) [] = kept
+set_each kept (n ∷ near) (d ∷ documents) = set_each (set kept n d) near documents
+
+-- around the template of a number, one of these, something else is kept now
+pub record IsOtherNear (kept : List KeptDocument) (near : List ℕ) (documents : List KeptDocument) (number : ℕ) : Type 0 where
+  pub place : ℕ
+  pub before : KeptDocument
+  pub now : KeptDocument
+  pub near_is : slice_get near place ≡ Some number
+  pub was : slice_get kept number ≡ Some before
+  pub is : slice_get documents place ≡ Some now
+  pub other : kept_view before.around ≢ kept_view now.around
+
+-- these are the numbers of such ones
+pub record AreOthersNear (kept : List KeptDocument) (near : List ℕ) (documents : List KeptDocument) (numbers : List ℕ) : Type 0 where
+  pub others : (number : ℕ) → IsOneOf numbers number → IsOtherNear kept near documents number
+  pub same : (place number : ℕ) (d e : KeptDocument) → slice_get near place ≡ Some number → slice_get kept number ≡ Some d → slice_get documents place ≡ Some e
+      → IsOneOf numbers number ⊎ (kept_view d.around ≡ kept_view e.around)
 
 -- ---- what is kept then
 
 -- the names that a template uses and that no template has
 abbrev pub own_lacking : KeptDocument → List (List ℕ)
 own_lacking d = names_missing (kept_around d.around) (used_names (kept_page d.page))
-
--- the file of the document, if something else is around its template
-abbrev pub IsNamed : KeptDocument → KeptDocument → List (List ℕ) → Type 0
-IsNamed d e names = ((kept_view d.around ≡ kept_view e.around) × (names ≡ [])) ⊎ ((kept_view d.around ≢ kept_view e.around) × (names ≡ string_bytes d.file ∷ []))
 
 -- what is kept is by what the templates say
 abbrev pub kept_with : List ℕ → List (List ℕ) → List (List ℕ) → List KeptDocument → KeptSiteVal
@@ -107,8 +128,12 @@ pub record IsKeptBy (root : List ℕ) (others lacking : List (List ℕ)) (kept :
   pub ordered : AreInOrder (map (λ d. d.file) (map around_file kept))
   pub fits : IsKeptOf (kept_with root others lacking kept) (map said_of kept)
 
-pub record IsRenewed (root : List ℕ) (others : List (List ℕ)) (kept : List KeptDocument) (js : List Judged) (at : ℕ) (r : Renewed) : Type 0 where
-  pub within : at < length kept
-  pub said : map said_of (set kept at r.document) ≡ map said_in js
-  pub fits : IsKeptOf (kept_with root others (map string_bytes r.lacking.items) (set kept at r.document)) (map said_in js)
-  pub names : AreRenewed (map string_bytes r.names.items) (map around_file kept) (map around_file (set kept at r.document))
+abbrev pub kept_now : List KeptDocument → Renewed → List KeptDocument
+kept_now kept r = set_each kept r.near.items r.documents.items
+
+pub record IsRenewed (root : List ℕ) (others : List (List ℕ)) (kept : List KeptDocument) (js : List Judged) (r : Renewed) : Type 0 where
+  pub near : AreRight (length kept) r.near.items
+  pub each : length r.documents.items ≡ length r.near.items
+  pub said : map said_of (kept_now kept r) ≡ map said_in js
+  pub fits : IsKeptOf (kept_with root others (map string_bytes r.lacking.items) (kept_now kept r)) (map said_in js)
+  pub names : AreRenewed (map string_bytes r.names.items) (map around_file kept) (map around_file (kept_now kept r))

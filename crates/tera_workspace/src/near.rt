@@ -1,14 +1,19 @@
 //! What is around the templates of a site when one document says something else than before.
 //!
-//! Around a template from which no way leads to that one, and which extends it neither directly nor indirectly, there is
-//! what was there. So only the template and those to which a way leads from it are looked at again.
+//! Around a template to which no way leads from that one, and which extends it neither directly nor indirectly, there is
+//! what was there. So only these are looked at again: the template, those that extend it if it says something else to
+//! them, and those to which a way leads from one of these.
 
-ghost use Rattle.std.specs.Prelude.{◌≡◌, ◌<◌, ◌∷◌, [], true, length, map, set, string_bytes, IfOk, OnOk, MatchOption};
+ghost use Rattle.std.specs.Prelude.{◌≡◌, ◌<◌, ◌∷◌, [], true, false, ℕ, List, Some, length, map, set, slice_get, string_bytes, IfOk, OnOk, MatchOption};
+ghost use Rattle.std.specs.BTreeSet.{keys};
 ghost use Rattle.std.specs.List.{flat_map};
 ghost use Rattle.tera_site.specs.Kept.{kept_page, names_in};
 ghost use Rattle.tera_site.specs.Sites.{used_names};
-ghost use Rattle.tera_workspace.specs.KeptSites.{said_in, said_of};
-ghost use Rattle.tera_workspace.specs.Near.{Adds, AreInSite, AreNear, AreRight, AreSameAround, AreThose, ChangesNone, IsDifference, IsKeptBy, IsNamed, IsOnlyOther, IsRenewed, NoneExtends, numbers_in, own_lacking, own_name};
+ghost use Rattle.tera_workspace.specs.KeptSites.{around_file, said_in, said_of};
+ghost use Rattle.tera_workspace.specs.Names.{contains_name};
+ghost use Rattle.tera_workspace.specs.Near.{Adds, AreInSite, AreNear, AreOthersNear, AreRight, AreThose, ConcernsThese, HaveAllBelow, HasOwnBelow, IsDifference, IsKeptBy, IsOnlyOther, IsRenewed, numbers_in, own_lacking, own_name, set_each};
+ghost use Rattle.tera_workspace.specs.Sites.{AreRenewed};
+ghost use Rattle.tera_workspace.specs.Sources.{AreInOrder};
 
 use crate::judged::Judged;
 use crate::sites::{KeptDocument, is_kept, kept_of, name_below};
@@ -17,17 +22,19 @@ use std::collections::BTreeSet;
 use tera_site::KeptPage;
 use tera_site::laws::{same_above, same_surroundings};
 
-/// If a way leads to more templates than this, what is around all of them is found again.
+/// If more templates than this are to be looked at, what is around all templates of the site is found again.
 const MOST_NEAR: usize = 128;
 
 /// What changes in what is kept of a site, after one document changed.
 #[derive(Drop)]
 pub(crate) struct Renewed {
-    /// What is kept of the document.
-    pub(crate) document: KeptDocument,
+    /// The numbers of the documents that were looked at again, each once.
+    pub(crate) near: Vec<usize>,
+    /// What is kept of each of these.
+    pub(crate) documents: Vec<KeptDocument>,
     /// The names that are lacking in the site.
     pub(crate) lacking: Vec<String>,
-    /// The name of the document, if something else is around its template.
+    /// The names of the documents around whose templates something else is, in their order.
     pub(crate) names: Vec<String>,
 }
 
@@ -63,8 +70,8 @@ pub(crate) fn compared(kept: &Vec<KeptDocument>, below: &Vec<&Judged>) -> Differ
     }
 }
 
-/// What changes if only the document of this number says something else than before. `None` if something else may be
-/// around other templates.
+/// What changes if only the document of this number says something else than before. `None` if many documents are to be
+/// looked at.
 pub(crate) fn renewed_at(
     alloc: Global,
     root: &str,
@@ -78,70 +85,143 @@ pub(crate) fn renewed_at(
     requires other { IsOnlyOther at (map said_of kept.now.items) (map said_in (map (λ j. j.now) below.now.items)) }
     requires kept { IsKeptBy root.now (names_in others.now) (map string_bytes lacking.now.items) kept.now.items }
     ensures { IfOk result (λ renewed. MatchOption renewed (Unit {0}) (IsRenewed root.now (names_in others.now)
-        kept.now.items (map (λ j. j.now) below.now.items) at)) }
+        kept.now.items (map (λ j. j.now) below.now.items))) }
 {
-    if !changes_none(root, kept, below, at) {
+    let Some(concerned) = concerned(alloc, root, kept, below, at)? else {
         return Ok(None);
-    }
-    let Some(near) = near_of(alloc, root, &kept[at].page, below, at)? else {
+    };
+    let Some(near) = near_of(alloc, root, &kept[at].page, below, &concerned, at)? else {
         return Ok(None);
     };
     let those = those_of(alloc, below, &near)?;
-    let (mut documents, _lacking) = kept_of(alloc, root, others, &those)?;
-    if !are_same_around(kept, &near, &documents) {
-        return Ok(None);
-    }
-    let document = documents.swap_remove(0);
-    let lacking = lacking_with(alloc, lacking, kept, at, &document)?;
-    let names = names_of(alloc, &kept[at], &document)?;
+    let (documents, _lacking) = kept_of(alloc, root, others, &those)?;
+    let lacking = lacking_with(alloc, lacking, kept, at, &documents[0])?;
+    let names = names_of(alloc, kept, &near, &documents)?;
     Ok(Some(Renewed {
-        document,
+        near,
+        documents,
         lacking,
         names,
     }))
 }
 
-// Whether what is above other templates is as before: the document says the same to those that extend it, or none does.
-fn changes_none(root: &str, kept: &Vec<KeptDocument>, below: &Vec<&Judged>, at: usize) -> bool
+// The names of the templates above which something else may be now: none, if the document says the same to those that
+// extend it. `None` if these are many.
+fn concerned<'w>(
+    alloc: Global,
+    root: &str,
+    kept: &Vec<KeptDocument>,
+    below: &Vec<&'w Judged>,
+    at: usize,
+) -> Result<Option<BTreeSet<&'w str>>, AllocError>
+    requires site { AreInSite root.now (map (λ j. j.now) below.now.items) }
     requires kept { at < length kept.now.items }
     requires below { at < length below.now.items }
-    ensures { result ≡ true → ChangesNone root.now at (map said_of kept.now.items)
-        (map said_in (map (λ j. j.now) below.now.items)) }
+    ensures { IfOk result (λ names. MatchOption names (Unit {0}) (λ s. ConcernsThese root.now at
+        (map said_of kept.now.items) (map (λ j. j.now) below.now.items) (contains_name s))) }
 {
-    same_above(&kept[at].page, &below[at].page) || none_extends(root, below, at)
+    if same_above(&kept[at].page, &below[at].page) {
+        return Ok(Some(BTreeSet::new(alloc)));
+    }
+    names_below(alloc, root, below, at)
 }
 
-fn none_extends(root: &str, below: &Vec<&Judged>, at: usize) -> bool
-    requires { at < length below.now.items }
-    ensures { result ≡ true → NoneExtends root.now at (map said_in (map (λ j. j.now) below.now.items)) }
+// The names of the template of this number, and of all that extend it, directly or indirectly. `None` if these are many.
+fn names_below<'w>(
+    alloc: Global,
+    root: &str,
+    below: &Vec<&'w Judged>,
+    at: usize,
+) -> Result<Option<BTreeSet<&'w str>>, AllocError>
+    requires site { AreInSite root.now (map (λ j. j.now) below.now.items) }
+    requires within { at < length below.now.items }
+    ensures { IfOk result (λ names. MatchOption names (Unit {0}) (λ s. HaveAllBelow root.now at
+        (map (λ j. j.now) below.now.items) (contains_name s))) }
 {
-    let Some(name) = name_below(root, below[at].template.file.as_str()) else {
-        return false;
-    };
-    for judged in below {
-        if judged.page.extends(name) {
-            return false;
+    let mut names = BTreeSet::new(alloc);
+    put_name(&mut names, own_name(root, below[at]))?;
+    for _pass in 0..MOST_NEAR {
+        if !put_below(&mut names, root, below)? {
+            return Ok(Some(names));
+        }
+        if names.len() > MOST_NEAR {
+            return Ok(None);
         }
     }
-    true
+    Ok(None)
 }
 
-// The numbers of the document and of all to which a way leads from it, now or before. `None` if these are many.
+// Puts the names of templates that extend one of these. Whether a name was put that was not there.
+fn put_below<'w>(
+    names: &mut BTreeSet<&'w str>,
+    root: &str,
+    below: &Vec<&'w Judged>,
+) -> Result<bool, AllocError>
+    ensures more { IfOk result (λ _. (n : List ℕ) → contains_name names.old n ≡ true → contains_name names.new n ≡ true) }
+    ensures all { IfOk result (λ put. put ≡ false → (number : ℕ) (j : Judged) →
+        slice_get (map (λ j. j.now) below.now.items) number ≡ Some j → HasOwnBelow root.now (contains_name names.new) j) }
+{
+    let mut put = false;
+    for judged in below {
+        if put_if_below(names, root, judged)? {
+            put = true;
+        }
+    }
+    Ok(put)
+}
+
+// Puts the name of the template if it extends one of these. Whether it was not there.
+fn put_if_below<'w>(
+    names: &mut BTreeSet<&'w str>,
+    root: &str,
+    judged: &'w Judged,
+) -> Result<bool, AllocError>
+    ensures own { IfOk result (λ _. HasOwnBelow root.now (contains_name names.new) judged.now) }
+    ensures more { IfOk result (λ _. (n : List ℕ) → contains_name names.old n ≡ true → contains_name names.new n ≡ true) }
+    ensures same { IfOk result (λ put. put ≡ false → (n : List ℕ) → contains_name names.new n ≡ contains_name names.old n) }
+{
+    let Some(parent) = judged.page.parent() else {
+        return Ok(false);
+    };
+    if !names.contains(parent) {
+        return Ok(false);
+    }
+    put_name(names, own_name(root, judged))
+}
+
+// Puts the name. Whether it was not there.
+fn put_name<'w>(names: &mut BTreeSet<&'w str>, name: &'w str) -> Result<bool, AllocError>
+    ensures has { IfOk result (λ _. contains_name names.new name.now ≡ true) }
+    ensures more { IfOk result (λ _. (n : List ℕ) → contains_name names.old n ≡ true → contains_name names.new n ≡ true) }
+    ensures same { IfOk result (λ put. put ≡ false → (n : List ℕ) → contains_name names.new n ≡ contains_name names.old n) }
+{
+    if names.contains(name) {
+        return Ok(false);
+    }
+    names.insert(name)?;
+    Ok(true)
+}
+
+// The numbers of the document and of those of these names, and of all to which a way leads from one of them, now or
+// before. `None` if these are many.
 fn near_of(
     alloc: Global,
     root: &str,
     before: &KeptPage,
     below: &Vec<&Judged>,
+    names: &BTreeSet<&str>,
     at: usize,
 ) -> Result<Option<Vec<usize>>, AllocError>
     requires site { AreInSite root.now (map (λ j. j.now) below.now.items) }
     requires within { at < length below.now.items }
     ensures { IfOk result (λ near. MatchOption near (Unit {0}) (λ v. AreNear root.now
-        (map said_in (map (λ j. j.now) below.now.items)) at (used_names (kept_page before.now)) v.items)) }
+        (map said_in (map (λ j. j.now) below.now.items)) at (used_names (kept_page before.now))
+        (contains_name names.now) v.items)) }
 {
     let mut near = Vec::new(alloc);
     near.push(at)?;
     put_used(alloc, &mut near, root, below, before)?;
+    put_all(&mut near, root, below, names)?;
     for number in 0..MOST_NEAR {
         if near.len() <= number {
             return Ok(Some(near));
@@ -150,6 +230,23 @@ fn near_of(
         put_used(alloc, &mut near, root, below, &below[next].page)?;
     }
     Ok(None)
+}
+
+// Puts the numbers of the documents of these names.
+fn put_all(
+    near: &mut Vec<usize>,
+    root: &str,
+    below: &Vec<&Judged>,
+    names: &BTreeSet<&str>,
+) -> Result<(), AllocError>
+    requires { AreInSite root.now (map (λ j. j.now) below.now.items) }
+    ensures { OnOk result (Adds (numbers_in root.now (map (λ j. j.now) below.now.items)) (length below.now.items)
+        (map (λ n. n.now) (keys names.now)) near.old.items near.new.items) }
+{
+    for name in names {
+        put_named(near, root, below, name)?;
+    }
+    Ok(())
 }
 
 // Puts the numbers of the documents that the page uses.
@@ -224,24 +321,6 @@ fn those_of<'w>(
     Ok(those)
 }
 
-// Whether around the documents of these numbers, except the first, there is what was there before.
-fn are_same_around(
-    kept: &Vec<KeptDocument>,
-    near: &Vec<usize>,
-    documents: &Vec<KeptDocument>,
-) -> bool
-    requires near { AreRight (length kept.now.items) near.now.items }
-    requires each { length documents.now.items ≡ length near.now.items }
-    ensures { result ≡ true → AreSameAround kept.now.items near.now.items documents.now.items }
-{
-    for number in 1..near.len() {
-        if !same_surroundings(&kept[near[number]].around, &documents[number].around) {
-            return false;
-        }
-    }
-    true
-}
-
 // The names that are lacking in the site if this is kept of the document of a number. Before, these were lacking.
 fn lacking_with(
     alloc: Global,
@@ -250,12 +329,14 @@ fn lacking_with(
     at: usize,
     document: &KeptDocument,
 ) -> Result<Vec<String>, AllocError>
-    requires { map string_bytes before.now.items ≡ flat_map own_lacking kept.now.items }
+    requires at { at < length kept.now.items }
+    requires before { map string_bytes before.now.items ≡ flat_map own_lacking kept.now.items }
     ensures { IfOk result (λ v. map string_bytes v.items
         ≡ flat_map own_lacking (set kept.now.items at document.now)) }
 {
+    let lacked = own_lacking(alloc, &kept[at])?;
     let own = own_lacking(alloc, document)?;
-    if before.is_empty() && own.is_empty() {
+    if lacked.len() == before.len() {
         return Ok(own);
     }
     let mut lacking = Vec::new(alloc);
@@ -276,17 +357,47 @@ fn own_lacking(alloc: Global, document: &KeptDocument) -> Result<Vec<String>, Al
     Ok(lacking)
 }
 
-// The name of the document, if something else is around its template now.
+// The names of those of the documents of these numbers around whose templates something else is now, in their order.
 fn names_of(
     alloc: Global,
-    before: &KeptDocument,
-    now: &KeptDocument,
+    kept: &Vec<KeptDocument>,
+    near: &Vec<usize>,
+    documents: &Vec<KeptDocument>,
 ) -> Result<Vec<String>, AllocError>
-    ensures { IfOk result (λ v. IsNamed before.now now.now (map string_bytes v.items)) }
+    requires ordered { AreInOrder (map (λ d. d.file) (map around_file kept.now.items)) }
+    requires files { map (λ d. d.file) (map around_file (set_each kept.now.items near.now.items documents.now.items))
+        ≡ map (λ d. d.file) (map around_file kept.now.items) }
+    requires near { AreRight (length kept.now.items) near.now.items }
+    requires each { length documents.now.items ≡ length near.now.items }
+    ensures { IfOk result (λ v. AreRenewed (map string_bytes v.items) (map around_file kept.now.items)
+        (map around_file (set_each kept.now.items near.now.items documents.now.items))) }
 {
+    let others = others_of(alloc, kept, near, documents)?;
     let mut names = Vec::new(alloc);
-    if !same_surroundings(&before.around, &now.around) {
-        names.push(before.file.clone()?)?;
+    for (number, document) in kept.iter().enumerate() {
+        if others.contains(&number) {
+            names.push(document.file.clone()?)?;
+        }
     }
     Ok(names)
+}
+
+// Those of these numbers around whose templates something else is now.
+fn others_of(
+    alloc: Global,
+    kept: &Vec<KeptDocument>,
+    near: &Vec<usize>,
+    documents: &Vec<KeptDocument>,
+) -> Result<Vec<usize>, AllocError>
+    requires near { AreRight (length kept.now.items) near.now.items }
+    requires each { length documents.now.items ≡ length near.now.items }
+    ensures { IfOk result (λ v. AreOthersNear kept.now.items near.now.items documents.now.items v.items) }
+{
+    let mut others = Vec::new(alloc);
+    for (place, number) in near.iter().enumerate() {
+        if !same_surroundings(&kept[*number].around, &documents[place].around) {
+            others.push(*number)?;
+        }
+    }
+    Ok(others)
 }

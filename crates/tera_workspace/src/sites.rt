@@ -9,6 +9,7 @@ ghost use Rattle.tera_site.specs.Kept.{kept_around, kept_page, kept_view, names_
 ghost use Rattle.tera_site.specs.Sites.{used_names};
 ghost use Rattle.tera_site.specs.Views.{around_in, around_view, names_of, page_view};
 ghost use Rattle.tera_workspace.specs.Kept.{name_of};
+ghost use Rattle.tera_workspace.specs.Near.{AreRight, set_each};
 ghost use Rattle.tera_workspace.specs.KeptSites.{around_file, documents_below, is_below, is_there, lacks_name, order_of, said_in, said_of, Renews};
 ghost use Rattle.tera_workspace.specs.Sites.{AreRenewed, IsKeptOf, around_named, name_below};
 ghost use Rattle.tera_workspace.specs.Sources.{AreInOrder};
@@ -20,6 +21,7 @@ use std::alloc::{AllocError, Global};
 use std::cmp::Ordering;
 use std::collections::BTreeSet;
 use std::marker::Model;
+use std::mem;
 use tera_site::laws::{same_page, same_surroundings};
 use tera_site::{Around, KeptPage, Page, Site, Surroundings};
 use text_edits::Documents;
@@ -146,7 +148,8 @@ impl KeptSite {
                         at,
                     )?;
                     if let Some(renewed) = renewed {
-                        self.documents[at] = renewed.document;
+                        let near = renewed.near;
+                        put_each(&mut self.documents, &near, renewed.documents);
                         self.lacking = renewed.lacking;
                         return Ok(renewed.names);
                     }
@@ -160,6 +163,18 @@ impl KeptSite {
         self.lacking = lacking;
         self.stale = false;
         Ok(names)
+    }
+}
+
+// Puts each of these in the place of the document of its number.
+fn put_each(documents: &mut Vec<KeptDocument>, near: &Vec<usize>, those: Vec<KeptDocument>)
+    requires near { AreRight (length documents.old.items) near.now.items }
+    requires each { length those.items ≡ length near.now.items }
+    ensures { documents.new.items ≡ set_each documents.old.items near.now.items those.items }
+{
+    let mut those = those;
+    for (at, number) in near.iter().enumerate() {
+        mem::swap(&mut documents[*number], &mut those[at]);
     }
 }
 

@@ -1,23 +1,24 @@
-use Rattle.std.proofs.Common.{◌≡◌, ◌∙◌, ◌<◌, [], Bor, length, get_or, map, set, string_bytes, Some, ap, sym, arith}
+use Rattle.std.proofs.Common.{◌≡◌, ◌∙◌, ◌<◌, Bor, length, get_or, map, set, string_bytes, Some, ap, sym, arith}
 use Rattle.std.specs.Prelude.{slice_get}
-use Rattle.std.proofs.lemmas.Bool.{eqb-true}
-use Rattle.std.proofs.lemmas.List.{get_or_read, nil_from_length}
+use Rattle.std.proofs.lemmas.List.{get_or_read, length-map}
+use Rattle.tera_workspace.specs.Near.{own_lacking}
 use Rattle.tera_workspace.specs.declared.sites.KeptDocument.{KeptDocument}
 use Rattle.tera_workspace.proofs.NearSteps.{at_index, lacking_more}
-use Rattle.tera_workspace.proofs.RenewedLemmas.{none_lacking, set_here, set_there}
+use Rattle.tera_workspace.proofs.RenewedLemmas.{own_all, set_here, set_there}
 use Rattle.tera_workspace.proofs.near.lacking_with.Goals as goal
 use Rattle.tera_workspace.proofs.near.lacking_with.Goals.{then-number-at, else-number-at}
 
-pub returns-then-is_empty-2 : goal.returns-then-is_empty-2
-returns-then-is_empty-2 c =
+pub returns-then-len : goal.returns-then-len
+returns-then-len c =
+    let kept = c.args.kept.now.items in
     let before = c.args.before.now.items in
-    let own = c.in_ok-own.own.items in
-    let one = eqb-true _ _ (sym c.is_empty.ensures ∙ c.if-is_empty.true) in
-    let other = eqb-true _ _ (sym c.is_empty-then-is_empty.ensures ∙ c.if-is_empty-2.true) in
-    let none : before ≡ [] = nil_from_length before (omega (arith, one)) in
-    let none_own : own ≡ [] = nil_from_length own (omega (arith, other)) in
-    ap (map string_bytes) none_own
-    ∙ sym (none_lacking c.args.kept.now.items c.args.at c.args.document.now (sym c.requires ∙ ap (map string_bytes) none) (sym c.in_ok-own.ensures ∙ ap (map string_bytes) none_own))
+    let lacked = c.in_ok-lacked.lacked.items in
+    let at = c.args.at in
+    let d = c.index.result.now in
+    let here : slice_get kept at ≡ Some d = at_index kept at d c.requires.at (get_or_read kept at d c.requires.at c.index.ensures d) in
+    let many : length (map string_bytes before) ≡ length (own_lacking d) =
+    (let l = length-map before string_bytes in let m = length-map lacked string_bytes in let w = ap length c.in_ok-lacked.ensures in let e = c.if-len.true in omega (arith, l, m, w, e)) in
+    c.in_ok-own.ensures ∙ sym (own_all kept at d c.args.document.now (map string_bytes before) here c.requires.before many)
 
 pub loop-number-preserved : goal.loop-number-preserved
 loop-number-preserved c =

@@ -1,8 +1,8 @@
-use Rattle.std.proofs.Common.{◌≡◌, ◌∙◌, ℕ, List, map, set, string_bytes, MatchOption, Option, Some, sym, ap, subst, arith}
+use Rattle.std.proofs.Common.{◌≡◌, ◌∙◌, ℕ, List, map, string_bytes, MatchOption, Option, Some, sym, ap, subst}
 use Rattle.tera_site.specs.Kept.{names_in}
-use Rattle.tera_workspace.specs.KeptSites.{around_file, documents_below, said_in, site_view}
-use Rattle.tera_workspace.specs.Near.{AreInSite, IsKeptBy, IsRenewed, kept_with}
-use Rattle.tera_workspace.specs.Sites.{IsKeptOf}
+use Rattle.tera_workspace.specs.KeptSites.{around_file, documents_below, said_in, said_of, site_view}
+use Rattle.tera_workspace.specs.Near.{AreInSite, IsKeptBy, IsRenewed, kept_now, kept_with}
+use Rattle.tera_workspace.specs.Sites.{AreRenewed, IsKeptOf}
 use Rattle.tera_workspace.specs.declared.judged.Judged.{Judged}
 use Rattle.tera_workspace.specs.declared.near.Renewed.{Renewed}
 use Rattle.tera_workspace.specs.declared.sites.KeptDocument.{KeptDocument}
@@ -12,9 +12,9 @@ use Rattle.tera_workspace.proofs.NearNames.{in_site}
 use Rattle.tera_workspace.proofs.RenewsLemmas.{none_renewed}
 use Rattle.tera_workspace.proofs.sites.KeptSite.renew.Goals as goal
 
-is_renewed : (root : List ℕ) (others : List (List ℕ)) (kept : List KeptDocument) (js : List Judged) (at : ℕ) (o : Option Renewed) (r : Renewed) → o ≡ Some r
-    → MatchOption o (Unit {0}) (IsRenewed root others kept js at) → IsRenewed root others kept js at r
-is_renewed root others kept js at o r is h = subst (λ x. MatchOption x (Unit {0}) (IsRenewed root others kept js at)) is h
+is_renewed : (root : List ℕ) (others : List (List ℕ)) (kept : List KeptDocument) (js : List Judged) (o : Option Renewed) (r : Renewed) → o ≡ Some r
+    → MatchOption o (Unit {0}) (IsRenewed root others kept js) → IsRenewed root others kept js r
+is_renewed root others kept js o r is h = subst (λ x. MatchOption x (Unit {0}) (IsRenewed root others kept js)) is h
 
 pub returns-in-Same-clause-fits : goal.returns-in-Same-clause-fits
 returns-in-Same-clause-fits c = λ kept read.
@@ -42,13 +42,12 @@ renewed_at-requires c =
       kept = subst (λ r. IsKeptBy r (names_in s.others) (map string_bytes s.lacking.items) s.documents.items) root (record { ordered = c.self.invariant.ordered; fits = c.self.invariant.kept c.if-not-self.true });
     }
 
-pub index_mut-requires : goal.index_mut-requires
-index_mut-requires c =
+pub put_each-requires : goal.put_each-requires
+put_each-requires c =
     let s = c.self.inside in
-    let renewed = is_renewed c.as_str-in-One.result.now (names_in s.others) s.documents.items (now_of c.in_ok-below.below.items) c.in-One.at c.in_ok-renewed-in-One.renewed c.in-Some.renewed
+    let renewed = is_renewed c.as_str-in-One.result.now (names_in s.others) s.documents.items (now_of c.in_ok-below.below.items) c.in_ok-renewed-in-One.renewed c.in-Some.renewed
     c.in-Some.is c.in_ok-renewed-in-One.ensures in
-    let within = renewed.within in
-    omega (arith, within)
+    record { near = renewed.near; each = renewed.each }
 
 pub invariant_of-self : goal.invariant_of-self
 invariant_of-self c =
@@ -56,13 +55,17 @@ invariant_of-self c =
     let w = c.args.workspace.now in
     let below = now_of c.in_ok-below.below.items in
     let r = c.in-Some.renewed in
-    let documents = set s.documents.items c.in-One.at r.document in
-    let renewed = is_renewed c.as_str-in-One.result.now (names_in s.others) s.documents.items below c.in-One.at c.in_ok-renewed-in-One.renewed r c.in-Some.is c.in_ok-renewed-in-One.ensures in
+    let documents = c.put_each.new.documents.items in
+    let is : documents ≡ kept_now s.documents.items r = c.put_each.ensures in
+    let renewed = is_renewed c.as_str-in-One.result.now (names_in s.others) s.documents.items below c.in_ok-renewed-in-One.renewed r c.in-Some.is c.in_ok-renewed-in-One.ensures in
+    let said : map said_of documents ≡ map said_in below = ap (map said_of) is ∙ renewed.said in
+    let fits : IsKeptOf (kept_with c.as_str-in-One.result.now (names_in s.others) (map string_bytes r.lacking.items) documents) (map said_in below) =
+    subst (λ ds. IsKeptOf (kept_with c.as_str-in-One.result.now (names_in s.others) (map string_bytes r.lacking.items) ds) (map said_in below)) (sym is) renewed.fits in
     record {
-      ordered = kept_ordered _ w.documents w.judged.items below documents w.ordered c.in_ok-below.ensures renewed.said;
+      ordered = kept_ordered _ w.documents w.judged.items below documents w.ordered c.in_ok-below.ensures said;
       kept = λ fresh.
-          subst (IsKeptOf (kept_with (string_bytes s.root) (names_in s.others) (map string_bytes r.lacking.items) documents)) (sym renewed.said)
-          (at_root _ (string_bytes s.root) (names_in s.others) (map string_bytes r.lacking.items) (map around_file documents) (map said_in below) c.as_str-in-One.ensures.value renewed.fits);
+          subst (IsKeptOf (kept_with (string_bytes s.root) (names_in s.others) (map string_bytes r.lacking.items) documents)) (sym said)
+          (at_root _ (string_bytes s.root) (names_in s.others) (map string_bytes r.lacking.items) (map around_file documents) (map said_in below) c.as_str-in-One.ensures.value fits);
     }
 
 pub returns-in-Some-clause-fits : goal.returns-in-Some-clause-fits
@@ -73,17 +76,22 @@ returns-in-Some-clause-fits c = λ kept read.
     let is : below ≡ documents_below (string_bytes s.root) w.documents w.judged.items =
     c.in_ok-below.ensures ∙ ap (λ root. documents_below root w.documents w.judged.items) c.as_str.ensures.value in
     let r = c.in-Some.renewed in
-    let documents = set s.documents.items c.in-One.at r.document in
-    let renewed = is_renewed c.as_str-in-One.result.now (names_in s.others) s.documents.items below c.in-One.at c.in_ok-renewed-in-One.renewed r c.in-Some.is c.in_ok-renewed-in-One.ensures in
+    let documents = c.put_each.new.documents.items in
+    let put : documents ≡ kept_now s.documents.items r = c.put_each.ensures in
+    let renewed = is_renewed c.as_str-in-One.result.now (names_in s.others) s.documents.items below c.in_ok-renewed-in-One.renewed r c.in-Some.is c.in_ok-renewed-in-One.ensures in
+    let fits : IsKeptOf (kept_with c.as_str-in-One.result.now (names_in s.others) (map string_bytes r.lacking.items) documents) (map said_in below) =
+    subst (λ ds. IsKeptOf (kept_with c.as_str-in-One.result.now (names_in s.others) (map string_bytes r.lacking.items) ds) (map said_in below)) (sym put) renewed.fits in
     now_fits (kept_with (string_bytes s.root) (names_in s.others) (map string_bytes r.lacking.items) documents) w below is
-    (at_root _ (string_bytes s.root) (names_in s.others) (map string_bytes r.lacking.items) (map around_file documents) (map said_in below) c.as_str-in-One.ensures.value renewed.fits) kept read
+    (at_root _ (string_bytes s.root) (names_in s.others) (map string_bytes r.lacking.items) (map around_file documents) (map said_in below) c.as_str-in-One.ensures.value fits) kept read
 
 pub returns-in-Some-clause-names : goal.returns-in-Some-clause-names
 returns-in-Some-clause-names c =
     let s = c.self.inside in
-    let renewed = is_renewed c.as_str-in-One.result.now (names_in s.others) s.documents.items (now_of c.in_ok-below.below.items) c.in-One.at c.in_ok-renewed-in-One.renewed c.in-Some.renewed
+    let r = c.in-Some.renewed in
+    let put : c.put_each.new.documents.items ≡ kept_now s.documents.items r = c.put_each.ensures in
+    let renewed = is_renewed c.as_str-in-One.result.now (names_in s.others) s.documents.items (now_of c.in_ok-below.below.items) c.in_ok-renewed-in-One.renewed r
     c.in-Some.is c.in_ok-renewed-in-One.ensures in
-    rw (← c.self.view_is) renewed.names
+    rw (← c.self.view_is) (subst (λ ds. AreRenewed (map string_bytes r.names.items) (map around_file s.documents.items) (map around_file ds)) (sym put) renewed.names)
 
 pub renewed-requires : goal.renewed-requires
 renewed-requires c = record {
