@@ -58,6 +58,44 @@ pair_next n before after i one other h is g js agree rest =
     (subst (λ ys. HaveOneHeadIfAny (definition_named n (map definition_view (one ∷ drop (suc i) before))) (definition_named n (map definition_view ys))) (sym (drop_next after i other g js))
     (pair_more n (definition_view one) (definition_view other) (map definition_view (drop (suc i) before)) (map definition_view (drop (suc i) after)) agree more))
 
+-- ---- a pair of definitions more at the end
+
+abbrev or_else : Option Definition → Option Definition → Option Definition
+or_else None p = p
+or_else (Some d) p = Some d
+
+cond_else : (b : Bool) (d : Definition) (o p : Option Definition) → cond b (Some d) (or_else o p) ≡ or_else (cond b (Some d) o) p
+cond_else true d o p = refl
+cond_else false d o p = refl
+
+named_last : (n : List ℕ) (ds : List Definition) (e : Definition) → definition_named n (ds ++ e ∷ []) ≡ or_else (definition_named n ds) (definition_named n (e ∷ []))
+named_last n [] e = refl
+named_last n (d ∷ ds) e =
+    ap (cond (bytes_eq d.name n) (Some d)) (named_last n ds e) ∙ cond_else (bytes_eq d.name n) d (definition_named n ds) (definition_named n (e ∷ []))
+
+either_of : (o p q r : Option Definition) → HaveOneHeadIfAny o p → HaveOneHeadIfAny q r → HaveOneHeadIfAny (or_else o q) (or_else p r)
+either_of None None q r before last = last
+either_of (Some d) (Some e) q r before last = before
+either_of None (Some e) q r before last = absurd before
+either_of (Some d) None q r before last = absurd before
+
+pub pair_last : (n : List ℕ) (before older after newer : List ComponentDefinition) (one other : ComponentDefinition) → before ≡ older ++ one ∷ [] → after ≡ newer ++ other ∷ []
+    → HaveOneHead (definition_view one) (definition_view other)
+    → HaveOneHeadIfAny (definition_named n (map definition_view older)) (definition_named n (map definition_view newer))
+    → HaveOneHeadIfAny (definition_named n (map definition_view before)) (definition_named n (map definition_view after))
+pair_last n before older after newer one other is js head agree =
+    let d = definition_view one in
+    let e = definition_view other in
+    let ds = map definition_view older in
+    let es = map definition_view newer in
+    let first : definition_named n (map definition_view before) ≡ or_else (definition_named n ds) (definition_named n (d ∷ [])) =
+    ap (definition_named n) (ap (map definition_view) is ∙ map-append definition_view older (one ∷ [])) ∙ named_last n ds d in
+    let second : definition_named n (map definition_view after) ≡ or_else (definition_named n es) (definition_named n (e ∷ [])) =
+    ap (definition_named n) (ap (map definition_view) js ∙ map-append definition_view newer (other ∷ [])) ∙ named_last n es e in
+    subst (λ o. HaveOneHeadIfAny o (definition_named n (map definition_view after))) (sym first)
+    (subst (HaveOneHeadIfAny (or_else (definition_named n ds) (definition_named n (d ∷ [])))) (sym second)
+    (either_of (definition_named n ds) (definition_named n es) _ _ agree (pair_more n d e [] [] (inl head) tt)))
+
 -- ---- names that were added
 
 if_true : (b : Bool) → (if b then true else false) ≡ false → b ≡ false

@@ -22,6 +22,12 @@ HaveOneHeadIfAny None None = Unit {0}
 HaveOneHeadIfAny (Some d) (Some e) = HaveOneHead d e
 HaveOneHeadIfAny _ _ = ⊥
 
+-- two lists of definitions differ only within these two: a name has one head in those if it has one in these
+abbrev pub DifferWithin : List Definition → List Definition → List Definition → List Definition → Type 0
+DifferWithin left right before after =
+    (n : List ℕ) → HaveOneHeadIfAny (definition_named n left) (definition_named n right)
+    → HaveOneHeadIfAny (definition_named n before) (definition_named n after)
+
 -- in calls of the component of a name the same is found by both templates: the definitions have one head, and both may
 -- show the body, or neither does
 abbrev pub HaveOneHeadIn : List ℕ → Template → Template → Type 0

@@ -6,7 +6,7 @@ ghost use Rattle.std.specs.List.{list_any};
 ghost use Rattle.tera_tree.specs.View.{definition_view};
 ghost use Rattle.tera_templates.specs.Lost.{are_open};
 ghost use Rattle.tera_templates.specs.Templates.{definitions_of};
-ghost use Rattle.tera_workspace.specs.Heads.{definition_named, HaveOneHead, HaveOneHeadIfAny, HaveOneHeadIn};
+ghost use Rattle.tera_workspace.specs.Heads.{definition_named, DifferWithin, HaveOneHead, HaveOneHeadIfAny, HaveOneHeadIn};
 ghost use Rattle.tera_workspace.specs.Kept.{is_reported_in, made_stale, marked, marked_if, marked_since, open_if, templates_of};
 ghost use Rattle.tera_workspace.specs.Names.{is_among};
 
@@ -44,10 +44,63 @@ fn touched_heads(alloc: Global, old: &Template, new: &Template) -> Result<Vec<St
     if before.len() == after.len() {
         push_others(&mut touched, before, after)?;
     } else {
-        push_defined(&mut touched, before)?;
-        push_defined(&mut touched, after)?;
+        let (older, newer) = differing_heads(before, after);
+        push_defined(&mut touched, older)?;
+        push_defined(&mut touched, newer)?;
     }
     Ok(touched)
+}
+
+// The definitions between those at the start and those at the end that have the same heads in both.
+fn differing_heads<'a>(
+    before: &'a [ComponentDefinition],
+    after: &'a [ComponentDefinition],
+) -> (&'a [ComponentDefinition], &'a [ComponentDefinition])
+    ensures { DifferWithin (map definition_view result.0.now) (map definition_view result.1.now)
+        (map definition_view before.now) (map definition_view after.now) }
+{
+    let (before, after) = without_first(before, after);
+    without_last(before, after)
+}
+
+// The definitions without those at the start that have the same heads.
+fn without_first<'a>(
+    before: &'a [ComponentDefinition],
+    after: &'a [ComponentDefinition],
+) -> (&'a [ComponentDefinition], &'a [ComponentDefinition])
+    ensures { DifferWithin (map definition_view result.0.now) (map definition_view result.1.now)
+        (map definition_view before.now) (map definition_view after.now) }
+{
+    let mut old = before;
+    let mut new = after;
+    'heads: while let Some((first, older)) = old.split_first()
+        && let Some((other, newer)) = new.split_first()
+        && have_one_head(first, other)
+    {
+        old = older;
+        new = newer;
+    }
+    (old, new)
+}
+
+// The definitions without those at the end that have the same heads.
+fn without_last<'a>(
+    before: &'a [ComponentDefinition],
+    after: &'a [ComponentDefinition],
+) -> (&'a [ComponentDefinition], &'a [ComponentDefinition])
+    ensures { DifferWithin (map definition_view result.0.now) (map definition_view result.1.now)
+        (map definition_view before.now) (map definition_view after.now) }
+{
+    let mut old = before;
+    let mut new = after;
+    'heads: while let Some((last, older)) = old.split_last()
+        && let Some((other, newer)) = new.split_last()
+        && have_one_head(last, other)
+    {
+        old = older;
+        new = newer;
+    }
+    (old, new)
 }
 
 // Adds the names of definitions that have one number and different heads.
