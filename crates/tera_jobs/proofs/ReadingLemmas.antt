@@ -1,10 +1,9 @@
 -- A template that was read.
-use Rattle.std.proofs.Common.{◌≡◌, ℕ, List, None, Option, Result, Ok, Err, IfOk, IfErr, IfSome, string_bytes, subst, sym}
+use Rattle.std.proofs.Common.{◌≡◌, ℕ, List, Result, Ok, Err, IfOk, IfErr, IfSome, string_bytes}
 use Rattle.std.specs.declared.alloc.AllocError.{AllocError}
 use Rattle.tera_templates.specs.Templates.{HasHidden}
 use Rattle.tera_templates.specs.Ignores.{AreIgnoresIn}
 use Rattle.tera_templates.specs.Mended.{IsMended}
-use Rattle.tera_templates.specs.declared.mended.Mended.{Mended}
 use Rattle.tera_templates.specs.declared.templates.Template.{Template}
 use Rattle.tera_grammar.specs.Limits.{usual}
 use Rattle.tera_grammar.specs.statements.Top.{Derives}
@@ -19,8 +18,3 @@ pub is_read : (m : Marks) (file source : List ℕ) (faults : ℕ) (r : Result Te
 is_read m file source faults (Ok t) named read refused lost mended ignores hidden =
     record { named = named; read = read; refused = refused; lost = lost; mended = mended; ignores = ignores; hidden = hidden }
 is_read m file source faults (Err e) named read refused lost mended ignores hidden = tt
-
--- what is not mended
-pub not_mended : (P : Mended → Type 0) (r : Result Template AllocError) → IfOk r (λ t. t.mended ≡ None) → IfOk r (λ t. IfSome t.mended P)
-not_mended P (Ok t) is = subst (λ (o : Option Mended). IfSome o P) (sym is) tt
-not_mended P (Err e) is = tt

@@ -1,13 +1,10 @@
 -- How messages leave the server in step.
-use Rattle.std.proofs.Common.{◌≡◌, ◌∙◌, ℕ, List, Option, Some, sym, subst}
-use Rattle.std.proofs.lemmas.Option.{same_Some}
+use Rattle.std.proofs.Common.{◌≡◌, ◌∙◌, ℕ, List, Option, sym, subst}
 use Rattle.json.specs.Json.{Json}
 use Rattle.json_rpc.specs.Ids.{IdVal, NullId, NumberId, TextId}
-use Rattle.json_rpc.specs.Messages.{MessageVal, Request, Notification, Response, Invalid, NotJson}
-use Rattle.json_rpc.specs.Outline.{answered_id}
 use Rattle.tera_workspace.specs.Workspaces.{IsKept}
 use Rattle.tera_server.specs.Notes.{Texts, Edits, IsInStep}
-use Rattle.tera_server.specs.Steps.{EditsIn, IsPassedOver, EditsPassedOver, Follows, KeepsUp}
+use Rattle.tera_server.specs.Steps.{EditsIn, IsPassedOver, EditsPassedOver, Follows}
 use Rattle.tera_server.specs.declared.notes.Noted.{Noted}
 use Rattle.tera_server.specs.declared.server.Phase.TheVariants.{Running}
 use Rattle.tera_server.specs.declared.server.Server.{Server}
@@ -25,21 +22,6 @@ passed_follows NullId s t texts now h edits f = record {
 }
 passed_follows (NumberId number) s t texts now h same f = same_texts texts now t same (subst (λ u. Follows texts u) (sym h) f)
 passed_follows (TextId text) s t texts now h same f = same_texts texts now t same (subst (λ u. Follows texts u) (sym h) f)
-
--- .. by whatever message that is to be answered
-passed_any : (id : IdVal) (s t : Server) (texts now : Texts) → IsPassedOver id s t → ((n : List ℕ) → now n ≡ texts n) → Follows texts s → Follows now t
-passed_any NullId s t texts now h same f = passed_follows NullId s t texts now h tt f
-passed_any (NumberId number) s t texts now h same f = passed_follows (NumberId number) s t texts now h same f
-passed_any (TextId text) s t texts now h same f = passed_follows (TextId text) s t texts now h same f
-
-pub passed_keeps_up : (message : MessageVal) (id : IdVal) (s t : Server) → Some id ≡ answered_id message → IsPassedOver id s t → KeepsUp message s t
-passed_keeps_up (Request other method params) id s t is h = λ texts now same f. passed_any id s t texts now h same f
-passed_keeps_up (Notification method params) id s t is h = cc
-passed_keeps_up Response id s t is h = cc
-passed_keeps_up (Invalid other) id s t is h = λ texts now edits f.
-    passed_follows other s t texts now (subst (λ i. IsPassedOver i s t) (same_Some id other is) h) edits f
-passed_keeps_up NotJson id s t is h = λ texts now edits f.
-    passed_follows NullId s t texts now (subst (λ i. IsPassedOver i s t) (same_Some id NullId is) h) edits f
 
 pub passed_kept : (id : IdVal) (s t : Server) → IsPassedOver id s t → IsKept s.workspace → IsKept t.workspace
 passed_kept NullId s t h kept = subst (λ (u : Server). IsKept u.workspace) (sym h.same) kept

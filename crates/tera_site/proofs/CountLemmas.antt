@@ -1,5 +1,5 @@
 -- Counts of blocks by their names, and the blocks that are counted.
-use Rattle.std.proofs.Common.{◌≡◌, ◌∙◌, ◌+◌, ◌-◌, ◌<◌, ◌≤◌, ◌⊎◌, inl, inr, ℕ, zero, suc, Bool, true, false, cond, List, [], ◌∷◌, ◌++◌, Option, None, Some, Bor, append-nil, length, get_or, map, take, refl, sym, ap, arith}
+use Rattle.std.proofs.Common.{◌≡◌, ◌∙◌, ◌+◌, ◌-◌, ◌<◌, ◌⊎◌, inl, inr, ℕ, Bool, true, false, cond, List, [], ◌∷◌, ◌++◌, Option, Some, Bor, append-nil, length, get_or, take, refl, sym, ap, arith}
 use Rattle.std.specs.Prelude.{◌||◌, ◌&&◌, nat_lt, unwrap_or}
 use Rattle.std.specs.BTreeSet.{BTreeSet, UpdatesBy}
 use Rattle.std.specs.Cmp.Lexicographic.{slice_cmp}
@@ -74,13 +74,6 @@ put_added old now block n count is more = is ∙ elim (same_name n block) [
   | inr no_is ↦ let (not_here, not_back) = no_is in
       (λ i. cond (not_back i) true old) ∙ sym ((λ i. old || (not_here i && nat_lt 0 (count n))) ∙ or_false old)
 ]
-
-pub not_added : (old : Bool) (block n : List ℕ) (count : List ℕ → ℕ) → count block ≤ 0 → old ≡ (old || (bytes_eq n block && nat_lt 0 (count n)))
-not_added old block n count none = sym (elim (same_name n block) [
-  | inl yes_is ↦ let (same, here, back) = yes_is in
-      (λ i. old || (here i && nat_lt 0 (count (same i)))) ∙ ap (λ k. old || nat_lt 0 k) (let e : count block ≡ 0 = omega (arith, none) in e) ∙ or_false old
-  | inr no_is ↦ let (not_here, not_back) = no_is in (λ i. old || (not_here i && nat_lt 0 (count n))) ∙ or_false old
-])
 
 pub own_more : (old now : Bool) (ns : List (List ℕ)) (n m : List ℕ) (c : Bool) → old ≡ (list_any (bytes_eq n) ns && c) → now ≡ (old || (bytes_eq n m && c))
     → now ≡ (list_any (bytes_eq n) (ns ++ m ∷ []) && c)

@@ -1,9 +1,9 @@
 -- What is found of names is added in one template after the other.
-use Rattle.std.proofs.Common.{◌≡◌, ◌≢◌, ◌∙◌, ◌<◌, ◌≤◌, ◌+◌, ◌⊎◌, inl, inr, ℕ, zero, suc, Bool, true, false, List, [], ◌∷◌, ◌++◌, Option, None, Some, length, map, refl, set, Result, Ok, Err, OnOk, Vec, sym, ap, subst, arith}
+use Rattle.std.proofs.Common.{◌≡◌, ◌∙◌, ◌<◌, ◌+◌, ◌⊎◌, inl, inr, ℕ, zero, suc, Bool, true, false, List, ◌++◌, map, refl, Result, Ok, Err, OnOk, Vec, sym, ap, subst, arith}
 use Rattle.std.specs.Prelude.{slice_get}
 use Rattle.std.specs.declared.alloc.Global.{Global}
 use Rattle.std.specs.List.Sorted.{IsPermutation}
-use Rattle.std.proofs.lemmas.List.{length-set, map-append}
+use Rattle.std.proofs.lemmas.List.{map-append}
 use Rattle.std.proofs.lemmas.List.Sorted.{IsPermutation-append_right, IsPermutation-map, IsPermutation-trans}
 use Rattle.tera_findings.specs.Findings.{FindingVal, finding_view}
 use Rattle.tera_check.specs.OrderAndStatus.{IsInOrder}
@@ -14,46 +14,9 @@ use Rattle.tera_site.specs.Found.{AddsAt, AddsIf, AreAdded, IsWith, is_named}
 use Rattle.tera_site.specs.Named.{due_names}
 use Rattle.tera_site.specs.Sites.{AroundVal}
 use Rattle.tera_site.specs.declared.found.SiteNames.{SiteNames}
-use Rattle.tera_site.proofs.TourLemmas.{None_Some, no_way, same_Some}
+use Rattle.tera_site.proofs.TourLemmas.{no_way}
 
 -- ---- one is replaced
-
-get_other : {X : Type 0} (xs : List X) (i j : ℕ) (y : X) → j ≢ i → slice_get (set xs i y) j ≡ slice_get xs j
-get_other [] i j y other = refl
-get_other (x ∷ xs) zero zero y other = absurd (other refl)
-get_other (x ∷ xs) zero (suc j) y other = refl
-get_other (x ∷ xs) (suc i) zero y other = refl
-get_other (x ∷ xs) (suc i) (suc j) y other = get_other xs i j y (λ same. other (ap suc same))
-
-get_same : {X : Type 0} (xs : List X) (i : ℕ) (x y : X) → slice_get xs i ≡ Some x → slice_get (set xs i y) i ≡ Some y
-get_same [] i x y is = absurd (None_Some x is)
-get_same (z ∷ xs) zero x y is = refl
-get_same (z ∷ xs) (suc i) x y is = get_same xs i x y is
-
-pub replaced : (a : AroundVal) (ts : List Template) (number : ℕ) (old : List Found) (t : Template) (f g : Found)
-    → slice_get ts number ≡ Some t → slice_get old number ≡ Some f → IsWith a t f g → AddsAt a ts number old (set old number g)
-replaced a ts number old t f g has was is = record {
-  each = length-set old number g;
-  here = λ u h k there before now.
-      subst (λ x. IsWith a x h k) (same_Some t u (sym has ∙ there))
-      (subst (λ x. IsWith a t x k) (same_Some f h (sym was ∙ before))
-      (subst (λ x. IsWith a t f x) (same_Some g k (sym (get_same old number f g was) ∙ now)) is));
-  others = λ n other. get_other old number n g other;
-}
-
-pub none_added : (a : AroundVal) (ts : List Template) (number : ℕ) (old : List Found) → slice_get ts number ≡ None → AddsAt a ts number old old
-none_added a ts number old none = record {
-  each = refl;
-  here = λ t f g there was now. absurd (None_Some t (sym none ∙ there));
-  others = λ n other. refl;
-}
-
-pub none_found : (a : AroundVal) (ts : List Template) (number : ℕ) (old : List Found) → slice_get old number ≡ None → AddsAt a ts number old old
-none_found a ts number old none = record {
-  each = refl;
-  here = λ t f g there was now. absurd (None_Some f (sym none ∙ was));
-  others = λ n other. refl;
-}
 
 -- ---- what is found in one
 

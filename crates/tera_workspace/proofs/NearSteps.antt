@@ -13,13 +13,11 @@ use Rattle.std.proofs.lemmas.List.Elements.{Contains-append_cases}
 use Rattle.std.proofs.lemmas.Map.Text.{is_eq-slice_cmp}
 use Rattle.std.proofs.lemmas.Slice.Eq.{bytes_eq-Decides}
 use Rattle.std.proofs.lemmas.Option.{get_or_from_slice_get, slice_get-get_or, slice_get_past, slice_get_within}
-use Rattle.tera_site.specs.Kept.{kept_page}
-use Rattle.tera_site.specs.Sites.{is_name, number_from, used_names}
+use Rattle.tera_site.specs.Sites.{used_names}
 use Rattle.tera_site.proofs.TourLemmas.{first_in, in_cases, later_in, none_in}
-use Rattle.tera_workspace.specs.Kept.{name_of}
 use Rattle.tera_workspace.specs.KeptSites.{said_in}
 use Rattle.tera_workspace.specs.Names.{contains_name}
-use Rattle.tera_workspace.specs.Near.{Adds, AreInSite, AreNear, AreRight, AreThose, HasOwnBelow, IsOneOf, IsOnlyOther, number_in, numbers_in, own_lacking, own_name, set_each}
+use Rattle.tera_workspace.specs.Near.{Adds, AreNear, AreRight, AreThose, HasOwnBelow, IsOneOf, IsOnlyOther, number_in, numbers_in, own_lacking, own_name, set_each}
 use Rattle.tera_workspace.specs.Sites.{Said, name_below, names_said}
 use Rattle.tera_workspace.specs.declared.judged.Judged.{Judged}
 use Rattle.tera_workspace.specs.declared.sites.KeptDocument.{KeptDocument}
@@ -320,9 +318,6 @@ pub name_put : (key : Bor (List ℕ)) (s t : BTreeSet (Bor (List ℕ))) → Upda
     → (n : List ℕ) → contains_name t n ≡ cond (bytes_eq key.now n) true (contains_name s n)
 name_put key s t h n = h.0 (record { ref_ptr = (0, 0); now = n }) ∙ ap (λ b. cond b true (contains_name s n)) (is_eq-slice_cmp key.now n)
 
-pub put_has : (key : Bor (List ℕ)) (s t : BTreeSet (Bor (List ℕ))) → UpdatesBy (λ x y. slice_cmp nat_cmp x.now y.now) (λ k. slice_cmp nat_cmp key.now k.now) s t true → contains_name t key.now ≡ true
-put_has key s t h = name_put key s t h key.now ∙ ap (λ b. cond b true (contains_name s key.now)) ((bytes_eq-Decides key.now key.now).1 refl)
-
 pub put_more : (key : Bor (List ℕ)) (s t : BTreeSet (Bor (List ℕ))) → UpdatesBy (λ x y. slice_cmp nat_cmp x.now y.now) (λ k. slice_cmp nat_cmp key.now k.now) s t true
     → (n : List ℕ) → contains_name s n ≡ true → contains_name t n ≡ true
 put_more key s t h n is = name_put key s t h n ∙ ap (cond (bytes_eq key.now n) true) is ∙ both (bytes_eq key.now n)
@@ -330,16 +325,6 @@ put_more key s t h n is = name_put key s t h n ∙ ap (cond (bytes_eq key.now n)
     both : (b : Bool) → cond b true true ≡ true
     both true = refl
     both false = refl
-
--- what one that extends none of these, or one of them, has
-pub own_none : (root : List ℕ) (has : List ℕ → Bool) (j : Judged) → (kept_page j.page).parent ≡ None → HasOwnBelow root has j
-own_none root has j none n extends is = absurd (none_some n (sym none ∙ extends))
-
-pub own_other : (root : List ℕ) (has : List ℕ → Bool) (j : Judged) (parent : List ℕ) → (kept_page j.page).parent ≡ Some parent → has parent ≡ false → HasOwnBelow root has j
-own_other root has j parent is free n extends listed = absurd (false_true (sym free ∙ ap has (same_some parent n (sym is ∙ extends)) ∙ listed))
-  where
-    false_true : false ≡ true → ⊥
-    false_true e = cc
 
 -- a pass that puts none
 pub pass_next : (root : List ℕ) (js : List Judged) (number : ℕ) (j : Judged) (before now : List ℕ → Bool) → slice_get js number ≡ Some j → ((n : List ℕ) → now n ≡ before n) → HasOwnBelow root now j

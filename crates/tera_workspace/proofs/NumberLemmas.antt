@@ -1,5 +1,5 @@
 -- The document of a number that was found by a name.
-use Rattle.std.proofs.Common.{◌≡◌, ◌∙◌, ◌<◌, ◌+◌, ℕ, zero, suc, List, [], ◌∷◌, length, get_or, true, false, cond, Result, Ok, Err, MatchResult, refl, sym, ap, inl, inr, arith, rules, tests}
+use Rattle.std.proofs.Common.{◌≡◌, ◌∙◌, ◌<◌, ◌+◌, ℕ, zero, suc, List, [], ◌∷◌, length, get_or, false, cond, Result, Ok, Err, MatchResult, refl, sym, ap, inl, inr, arith, rules, tests}
 use Rattle.std.proofs.lemmas.Bool.Decides.{leb_tells}
 use Rattle.std.proofs.lemmas.Cmp.{nat_list_cmp_total}
 use Rattle.std.proofs.lemmas.List.Sorted.{searchable_from_sorted}
@@ -65,8 +65,6 @@ earlier_less (j ∷ js) zero (suc k) d o before within = names_at js k d (λ n. 
 earlier_less (j ∷ js) (suc i) (suc k) d o before within = earlier_less js i k d o.1 (omega arith) (omega arith)
 
 module _ (name : List ℕ) (js : List Judged) (o : AreAscending (sources_of js)) where
-  order : Judged → Ordering
-  order j = slice_cmp nat_cmp (name_of j) name
 
   are_sorted : IsSortedBy (λ a b. is_lt (slice_cmp nat_cmp (name_of a) (name_of b))) js
   are_sorted k d low high =

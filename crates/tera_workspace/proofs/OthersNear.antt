@@ -1,5 +1,5 @@
 -- Which of the documents of a site have something else around their templates, and the names of their files.
-use Rattle.std.proofs.Common.{◌≡◌, ◌≢◌, ◌∙◌, ◌∷◌, ◌++◌, ◌+◌, ◌<◌, ◌≤◌, ◌⊎◌, inl, inr, ℕ, zero, suc, List, [], length, get_or, map, Bool, true, false, cond, Option, None, Some, String, Global, string_bytes, option_map, refl, sym, ap, subst, arith}
+use Rattle.std.proofs.Common.{◌≡◌, ◌≢◌, ◌∙◌, ◌∷◌, ◌++◌, ◌+◌, ◌<◌, ◌≤◌, ◌⊎◌, inl, inr, ℕ, zero, suc, List, [], length, get_or, map, Bool, true, false, cond, None, Some, string_bytes, option_map, refl, sym, ap, subst, arith}
 use Rattle.std.proofs.Common.{if◌then◌else◌}
 use Rattle.std.specs.Prelude.{slice_get}
 use Rattle.std.specs.Cmp.Lexicographic.{slice_cmp}
@@ -8,10 +8,9 @@ use Rattle.std.specs.Ordering.{nat_cmp}
 use Rattle.std.specs.Str.{bytes_eq}
 use Rattle.std.specs.declared.cmp.Ordering.TheVariants.{Less}
 use Rattle.std.proofs.lemmas.Bool.Decides.{eqb_tells}
-use Rattle.std.proofs.lemmas.List.{map_push}
 use Rattle.std.proofs.lemmas.Option.{slice_get-get_or, slice_get_within}
 use Rattle.std.proofs.lemmas.Slice.Eq.{bytes_eq-Decides}
-use Rattle.tera_site.specs.Kept.{KeptVal, kept_view}
+use Rattle.tera_site.specs.Kept.{kept_view}
 use Rattle.tera_workspace.specs.KeptSites.{around_file}
 use Rattle.tera_workspace.specs.Names.{is_among}
 use Rattle.tera_workspace.specs.Near.{AreOthersNear, AreRight, IsOneOf, IsOtherNear, set_each}
@@ -19,7 +18,7 @@ use Rattle.tera_workspace.specs.SiteValues.{AroundFile}
 use Rattle.tera_workspace.specs.Sites.{AreRenewed, around_named, is_in}
 use Rattle.tera_workspace.specs.Sources.{AreInOrder}
 use Rattle.tera_workspace.specs.declared.sites.KeptDocument.{KeptDocument}
-use Rattle.tera_workspace.proofs.NameSets.{all_among, among_append}
+use Rattle.tera_workspace.proofs.NameSets.{all_among}
 use Rattle.tera_workspace.proofs.NearSteps.{pushed_cases, pushed_last, pushed_same}
 use Rattle.tera_workspace.proofs.OrderLemmas.{less_apart, same_text}
 use Rattle.tera_workspace.proofs.RenewedLemmas.{Row, before_all, each_rest, each_there, none_some, row, same_some, seen_at, viewed}
@@ -99,9 +98,6 @@ all_push Q (n ∷ ns) f h last = (h.0, all_push Q ns f h.1 last)
 in_order_push : (ns : List (List ℕ)) (f : List ℕ) → AreInOrder ns → AllByRecursion (λ m. slice_cmp nat_cmp m f ≡ Less) ns → AreInOrder (ns ++ f ∷ [])
 in_order_push [] f ordered before = (tt, tt)
 in_order_push (n ∷ ns) f ordered before = (all_push (λ m. slice_cmp nat_cmp n m ≡ Less) ns f ordered.0 before.0, in_order_push ns f ordered.1 before.1)
-
-true_first : (b : Bool) → (if true then true else b) ≡ true
-true_first b = refl
 
 last_among : (n : List ℕ) (ns : List (List ℕ)) → is_among n (ns ++ n ∷ []) ≡ true
 last_among n [] = ap (λ (b : Bool). if b then true else false) (same_text n)
@@ -233,12 +229,6 @@ module _ (kept : List KeptDocument) (near : List ℕ) (documents : List KeptDocu
 pub record OthersSoFar (kept : List KeptDocument) (near : List ℕ) (documents : List KeptDocument) (number : ℕ) (numbers : List ℕ) : Type 0 where
   pub others : (q : ℕ) → IsOneOf numbers q → IsOtherNear kept near documents q
   pub same : (k q : ℕ) (d e : KeptDocument) → k < number → slice_get near k ≡ Some q → slice_get kept q ≡ Some d → slice_get documents k ≡ Some e → IsOneOf numbers q ⊎ (kept_view d.around ≡ kept_view e.around)
-
-pub others_none : (kept : List KeptDocument) (near : List ℕ) (documents : List KeptDocument) → OthersSoFar kept near documents 0 []
-others_none kept near documents = record {
-  others = λ q there. absurd (none_some q there.1);
-  same = λ k q d e below. absurd (omega (arith, below));
-}
 
 pub others_passed : (kept : List KeptDocument) (near : List ℕ) (documents : List KeptDocument) (number m : ℕ) (f g : KeptDocument) (numbers : List ℕ) → slice_get near number ≡ Some m → slice_get kept m ≡ Some f → slice_get documents number ≡ Some g
     → kept_view f.around ≡ kept_view g.around → OthersSoFar kept near documents number numbers → OthersSoFar kept near documents (number + 1) numbers

@@ -1,21 +1,19 @@
 -- What is kept of a site when one document says something else than before.
 use Rattle.std.proofs.Common.{if◌then◌else◌}
-use Rattle.std.proofs.Common.{◌≡◌, ◌≢◌, ◌∙◌, ◌∷◌, ◌++◌, ◌+◌, ◌<◌, ◌≤◌, ◌⊎◌, inl, inr, ℕ, zero, suc, List, [], length, get_or, map, set, Bool, true, false, cond, codes, nat_eq, not, Option, None, Some, String, Global, string_bytes, option_map, refl, sym, ap, subst, arith}
+use Rattle.std.proofs.Common.{◌≡◌, ◌∙◌, ◌∷◌, ◌++◌, ◌+◌, ◌<◌, ◌≤◌, ◌⊎◌, inl, inr, ℕ, zero, suc, List, [], length, get_or, map, set, Bool, true, false, cond, codes, nat_eq, not, Option, None, Some, string_bytes, option_map, refl, sym, ap, subst, arith}
 use Rattle.std.specs.Prelude.{◌&&◌, ◌||◌, slice_get, is_some, unwrap_or}
-use Rattle.std.specs.Cmp.Lexicographic.{slice_cmp, nat_list_cmp_total}
-use Rattle.std.specs.List.{Contains, filter, find, flat_map}
+use Rattle.std.specs.Cmp.Lexicographic.{slice_cmp}
+use Rattle.std.specs.List.{Contains, filter, flat_map}
 use Rattle.std.specs.Option.{option_and_then}
-use Rattle.std.specs.Ordering.{nat_cmp, is_eq}
+use Rattle.std.specs.Ordering.{nat_cmp}
 use Rattle.std.specs.Str.{bytes_eq}
-use Rattle.std.specs.declared.cmp.Ordering.{Ordering}
-use Rattle.std.specs.declared.cmp.Ordering.TheVariants.{Less, Equal, Greater}
+use Rattle.std.specs.declared.cmp.Ordering.TheVariants.{Less}
 use Rattle.std.proofs.lemmas.Bool.Decides.{eqb_tells, leb_tells}
 use Rattle.std.proofs.lemmas.List.Elements.{filter-append}
 use Rattle.std.proofs.lemmas.List.{append-nil, get_or-set_same, get_or-set_other, length-append, length-map, length-set}
-use Rattle.std.proofs.lemmas.Map.Text.{is_eq-slice_cmp}
-use Rattle.std.proofs.lemmas.Option.{get_or_from_slice_get, slice_get-get_or, slice_get-map, slice_get_past, slice_get_within}
+use Rattle.std.proofs.lemmas.Option.{slice_get-get_or, slice_get-map, slice_get_past, slice_get_within}
 use Rattle.std.proofs.lemmas.Slice.Eq.{bytes_eq-Decides}
-use Rattle.tera_site.specs.Kept.{AreAboveAlike, around_by, is_one_of, kept_around, kept_page, kept_view, names_missing, on_page}
+use Rattle.tera_site.specs.Kept.{AreAboveAlike, around_by, is_one_of, kept_around, kept_page, kept_view, on_page}
 use Rattle.tera_site.specs.Pages.{PageVal}
 use Rattle.tera_site.specs.Sites.{AroundVal, IsAround, IsSiteOf, is_name, number_from, site_with, used_names}
 use Rattle.tera_site.proofs.ApartLemmas.{AreAllBelow, IsAlikeAt, IsClosed, alike_back, around_beside}
@@ -31,7 +29,7 @@ use Rattle.tera_workspace.specs.declared.judged.Judged.{Judged}
 use Rattle.tera_workspace.specs.declared.near.Renewed.{Renewed}
 use Rattle.tera_workspace.specs.declared.sites.KeptDocument.{KeptDocument}
 use Rattle.tera_workspace.proofs.BelowLemmas.{kept_files}
-use Rattle.tera_workspace.proofs.OrderLemmas.{IsBefore, equal_texts, less_apart, same_text}
+use Rattle.tera_workspace.proofs.OrderLemmas.{IsBefore, less_apart, same_text}
 
 pub none_some : {X : Type 0} (x : X) → None ≡ Some x → ⊥
 none_some x e = cc
@@ -616,9 +614,6 @@ module _ (root : List ℕ) (others : List (List ℕ)) (kept : List KeptDocument)
 
 pub at_kept : (at : ℕ) (kept : List KeptDocument) (js : List Judged) → IsOnlyOther at (map said_of kept) (map said_in js) → at < length kept
 at_kept at kept js other = (let w = other.within in let e = other.each in let l = length-map kept said_of in omega (arith, w, e, l))
-
-pub at_below : (at : ℕ) (kept : List KeptDocument) (js : List Judged) → IsOnlyOther at (map said_of kept) (map said_in js) → at < length js
-at_below at kept js other = (let w = other.within in let l = length-map js said_in in omega (arith, w, l))
 
 pub as_many_near : (documents : List KeptDocument) (near : List ℕ) (js those : List Judged) → AreThose near js those → map said_of documents ≡ map said_in those → length documents ≡ length near
 as_many_near documents near js those are said = sym (length-map documents said_of) ∙ ap length said ∙ length-map those said_in ∙ are.each
