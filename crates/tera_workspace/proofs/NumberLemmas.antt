@@ -65,7 +65,6 @@ earlier_less (j ∷ js) zero (suc k) d o before within = names_at js k d (λ n. 
 earlier_less (j ∷ js) (suc i) (suc k) d o before within = earlier_less js i k d o.1 (omega arith) (omega arith)
 
 module _ (name : List ℕ) (js : List Judged) (o : AreAscending (sources_of js)) where
-
   are_sorted : IsSortedBy (λ a b. is_lt (slice_cmp nat_cmp (name_of a) (name_of b))) js
   are_sorted k d low high =
       ap is_lt

@@ -220,14 +220,18 @@ fn near_of(
 {
     let mut near = Vec::new(alloc);
     near.push(at)?;
-    put_used(alloc, &mut near, root, below, before)?;
+    if !put_used(alloc, &mut near, root, below, before)? {
+        return Ok(None);
+    }
     put_all(&mut near, root, below, names)?;
     for number in 0..MOST_NEAR {
         if near.len() <= number {
             return Ok(Some(near));
         }
         let next = near[number];
-        put_used(alloc, &mut near, root, below, &below[next].page)?;
+        if !put_used(alloc, &mut near, root, below, &below[next].page)? {
+            return Ok(None);
+        }
     }
     Ok(None)
 }
@@ -249,23 +253,26 @@ fn put_all(
     Ok(())
 }
 
-// Puts the numbers of the documents that the page uses.
+// Puts the numbers of the documents that the page uses. Whether all of them were put: if there are many, they are not.
 fn put_used(
     alloc: Global,
     near: &mut Vec<usize>,
     root: &str,
     below: &Vec<&Judged>,
     page: &KeptPage,
-) -> Result<(), AllocError>
+) -> Result<bool, AllocError>
     requires { AreInSite root.now (map (λ j. j.now) below.now.items) }
-    ensures { OnOk result (Adds (numbers_in root.now (map (λ j. j.now) below.now.items)) (length below.now.items)
-        (used_names (kept_page page.now)) near.old.items near.new.items) }
+    ensures { IfOk result (λ whole. whole ≡ true → Adds (numbers_in root.now (map (λ j. j.now) below.now.items))
+        (length below.now.items) (used_names (kept_page page.now)) near.old.items near.new.items) }
 {
     let page = page.page(alloc)?;
     for name in &page.used_names(alloc)? {
+        if near.len() > MOST_NEAR {
+            return Ok(false);
+        }
         put_named(near, root, below, name)?;
     }
-    Ok(())
+    Ok(true)
 }
 
 fn put_named(

@@ -20,7 +20,7 @@ loop-number-init c =
     let names = c.args.names.now in
     near_begun c.args.root.now (map said_in (now_of below)) c.args.at (length below) (used_names (kept_page c.args.before.now)) (map (λ n. n.now) (keys names)) (contains_name names)
     c.push.new.self.items c.put_used.new.near.items c.put_all.new.near.items
-    (sym (as_many_said below)) c.requires.within (c.in_ok-push.ensures.items ∙ ap (λ xs. xs ++ c.args.at ∷ []) c.new-near.ensures.items) c.in_ok-put_used.ensures c.in_ok-put_all.ensures
+    (sym (as_many_said below)) c.requires.within (c.in_ok-push.ensures.items ∙ ap (λ xs. xs ++ c.args.at ∷ []) c.new-near.ensures.items) (c.in_ok-put_used.ensures c.if-not-branch.false) c.in_ok-put_all.ensures
     (name_key names)
 
 pub returns-then-len-number : goal.returns-then-len-number
@@ -54,4 +54,4 @@ loop-number-preserved c =
     let says : slice_get saids next ≡ Some (said_in b.now) =
     viewed said_in (now_of below) next b.now (viewed (λ (j : Bor Judged). j.now) below next b (at_index below next b in_below (get_or_read below next b in_below c.index.ensures b))) in
     near_more root saids c.args.at (length below) (used_names (kept_page c.args.before.now)) (contains_name c.args.names.now) at next (said_in b.now) near c.put_used-in-loop-number.new.near.items (sym (as_many_said below)) here says
-    c.loop-number.invariant c.in_ok-put_used-2.ensures
+    c.loop-number.invariant (c.in_ok-put_used-2.ensures c.if-not-branch-2.false)
