@@ -1,2 +1,3 @@
 pub mod ExcludedLemmas
 pub mod KeptLemmas
+pub mod MarkerLemmas

@@ -1,13 +1,15 @@
 //! The markers with which files are read and formatted.
 
-ghost use Rattle.std.specs.Prelude.{◌≡◌, IfOk, IfSome, true};
+ghost use Rattle.std.specs.Prelude.{◌≡◌, IfOk, IfErr, IfSome, MatchResult, Some, true};
+ghost use Rattle.std.specs.Cow.{cow_str_bytes};
+ghost use Rattle.std.specs.Option.{option_map};
 ghost use Rattle.tera_layout.specs.Steady.{is_steady};
 ghost use Rattle.tera_lexer.specs.grammar.Marks.{marks_of, IsValid};
+ghost use Rattle.tera_program_parts.specs.Markers.{AreGivenBy, AreOthersBy, AreWords, IsUnfit, IsUnfitForLayout, six};
 
 use crate::output::print_error;
 use std::alloc::{AllocError, Global};
 use std::borrow::CowStr;
-use std::str::SplitWhitespace;
 use tera_layout::are_steady;
 use tera_parser::lexer::Delimiters;
 use tera_parser::value::{Error, ErrorKind};
@@ -24,9 +26,22 @@ pub enum Unfit {
     Unsteady,
 }
 
+impl From<AllocError> for Unfit {
+    ghost use Rattle.std.specs.Prelude.{◌≡◌};
+    ghost use Rattle.tera_program_parts.specs.declared.markers.Unfit.TheVariants.{Memory};
+
+    ghost from_gives = { λ _ why. why ≡ Memory };
+
+    fn from(_error: AllocError) -> Unfit {
+        Unfit::Memory
+    }
+}
+
 /// The six markers in these words, if files can be formatted with them; without words, the default ones.
 pub fn steady_markers_of(alloc: Global, words: Option<&str>) -> Result<Delimiters, Unfit>
-    ensures { IfOk result (λ d. IsValid (marks_of d) × (is_steady (marks_of d) ≡ true)) }
+    ensures steady { IfOk result (λ d. IsValid (marks_of d) × (is_steady (marks_of d) ≡ true)) }
+    ensures given { IfOk result (λ d. AreGivenBy (option_map (λ t. t.now) words.entry) (marks_of d)) }
+    ensures unfit { IfErr result (IsUnfitForLayout (option_map (λ t. t.now) words.entry)) }
 {
     let markers = markers_of(alloc, words)?;
     if are_steady(&markers) {
@@ -38,7 +53,10 @@ pub fn steady_markers_of(alloc: Global, words: Option<&str>) -> Result<Delimiter
 
 /// The six markers in these words, if they are not the default ones.
 pub fn other_markers_of(alloc: Global, words: Option<&str>) -> Result<Option<Delimiters>, Unfit>
-    ensures { IfOk result (λ markers. IfSome markers (λ d. IsValid (marks_of d))) }
+    ensures valid { IfOk result (λ markers. IfSome markers (λ d. IsValid (marks_of d))) }
+    ensures given { IfOk result (λ markers.
+        AreOthersBy (option_map (λ t. t.now) words.entry) (option_map marks_of markers)) }
+    ensures unfit { IfErr result (IsUnfit (option_map (λ t. t.now) words.entry)) }
 {
     let markers = markers_of(alloc, words)?;
     if markers == Delimiters::default() {
@@ -48,19 +66,16 @@ pub fn other_markers_of(alloc: Global, words: Option<&str>) -> Result<Option<Del
     }
 }
 
-/// The six markers in these words; without words, the default ones.
-pub(crate) fn markers_of(alloc: Global, words: Option<&str>) -> Result<Delimiters, Unfit>
-    ensures { IfOk result (λ d. IsValid (marks_of d)) }
+// The six markers in these words; without words, the default ones.
+fn markers_of(alloc: Global, words: Option<&str>) -> Result<Delimiters, Unfit>
+    ensures valid { IfOk result (λ d. IsValid (marks_of d)) }
+    ensures given { IfOk result (λ d. AreGivenBy (option_map (λ t. t.now) words.entry) (marks_of d)) }
+    ensures unfit { IfErr result (IsUnfit (option_map (λ t. t.now) words.entry)) }
 {
-    match words {
-        Some(words) => valid(alloc, six_of(alloc, words)?),
-        None => valid(alloc, Delimiters::default()),
-    }
-}
-
-fn valid(alloc: Global, markers: Delimiters) -> Result<Delimiters, Unfit>
-    ensures { IfOk result (λ d. IsValid (marks_of d)) }
-{
+    let markers = match words {
+        Some(words) => six_of(alloc, words)?,
+        None => Delimiters::default(),
+    };
     match markers.validate(alloc) {
         Ok(()) => Ok(markers),
         Err(error) => Err(Unfit::Rule(error)),
@@ -68,30 +83,35 @@ fn valid(alloc: Global, markers: Delimiters) -> Result<Delimiters, Unfit>
 }
 
 // Six markers, in the order of the fields, with white space between them.
-fn six_of(alloc: Global, words: &str) -> Result<Delimiters, Unfit> {
-    let mut parts = words.split_whitespace();
-    let markers = Delimiters {
-        block_start: next_of(alloc, &mut parts)?,
-        block_end: next_of(alloc, &mut parts)?,
-        variable_start: next_of(alloc, &mut parts)?,
-        variable_end: next_of(alloc, &mut parts)?,
-        comment_start: next_of(alloc, &mut parts)?,
-        comment_end: next_of(alloc, &mut parts)?,
-    };
-    match parts.next() {
-        None => Ok(markers),
-        Some(_) => Err(Unfit::Number),
-    }
-}
-
-fn next_of(alloc: Global, parts: &mut SplitWhitespace<'_>) -> Result<CowStr<'static>, Unfit> {
-    let Some(marker) = parts.next() else {
+fn six_of(alloc: Global, text: &str) -> Result<Delimiters, Unfit>
+    ensures { MatchResult result (λ d. AreWords text.now (six (marks_of d))) (IsUnfit (Some text.now)) }
+{
+    let words: Vec<&str> = text.split_whitespace().collect(alloc)?;
+    let [
+        block_start,
+        block_end,
+        variable_start,
+        variable_end,
+        comment_start,
+        comment_end,
+    ] = words.as_slice()
+    else {
         return Err(Unfit::Number);
     };
-    match String::from_str(alloc, marker) {
-        Ok(text) => Ok(CowStr::Owned(text)),
-        Err(_) => Err(Unfit::Memory),
-    }
+    Ok(Delimiters {
+        block_start: owned(alloc, block_start)?,
+        block_end: owned(alloc, block_end)?,
+        variable_start: owned(alloc, variable_start)?,
+        variable_end: owned(alloc, variable_end)?,
+        comment_start: owned(alloc, comment_start)?,
+        comment_end: owned(alloc, comment_end)?,
+    })
+}
+
+fn owned(alloc: Global, marker: &str) -> Result<CowStr<'static>, AllocError>
+    ensures { IfOk result (λ copy. cow_str_bytes copy ≡ marker.now) }
+{
+    Ok(CowStr::Owned(String::from_str(alloc, marker)?))
 }
 
 /// Says on standard error why the markers cannot be used.
