@@ -1,63 +1,78 @@
 //! Files and folders that the settings leave out.
 
-ghost use Rattle.std.specs.Prelude.{◌≡◌, ◌⊎◌, ◌≤◌, ◌||◌, ◌++◌, ◌∷◌, [], ◌↔◌, ℕ, List, All, Any, Contains, IfOk, IsTrue, OnOk, length, map, string_bytes, take};
+ghost use Rattle.std.specs.Prelude.{◌≡◌, ◌≤◌, ◌||◌, ◌↔◌, ℕ, Any, List, IfOk, IsTrue, OnOk, Option, length, map, option_map, string_bytes, take, ⊤};
 ghost use Rattle.std.specs.Path.{PathStartsWith, path_components};
 ghost use Rattle.tera_files.specs.Names.{texts};
-ghost use Rattle.tera_program_parts.specs.Excluded.{AreOfPaths, are_names, has_names};
+ghost use Rattle.tera_program_parts.specs.Excluded.{AddsUnless, AreKept, AreOfPaths, AreOutside, IsExcluded, are_names, has_names};
 
 use std::alloc::{AllocError, Global};
 use std::collections::BTreeSet;
 use std::path::Path;
 use std::rt::Files;
 use std::{fs, io};
-use tera_files::Found;
+use tera_files::{Found, Unlisted};
 
 /// Paths by which the system knows files, each as its components.
 pub type Paths = BTreeSet<Vec<String>>;
 
+/// What knows files and folders by paths of its own: the system.
+pub trait KnownPaths {
+    // This may be its answer for the path.
+    ghost knows: { Self → List ℕ → Option (List ℕ) → Type 0 };
+
+    /// The path by which it knows the file or folder, if it has one.
+    fn known(&self, path: &str) -> Result<Option<String>, AllocError>
+        ensures { IfOk result (λ known. knows self.now path.now (option_map string_bytes known)) };
+}
+
+// No clause can say what the system answers.
+impl<R: Files + AllocGlobal> KnownPaths for R {
+    ghost knows = { λ system path known. ⊤ };
+
+    fn known(&self, path: &str) -> Result<Option<String>, AllocError> {
+        match fs::canonicalize(self, path) {
+            Ok(known) => Ok(Some(known.into_string())),
+            Err(error) if error.kind() == io::ErrorKind::OutOfMemory => Err(AllocError),
+            Err(_) => Ok(None),
+        }
+    }
+}
+
 /// What is found, without what is at one of these paths or below it. The system knows files by these paths. A file for
 /// which it has no path stays.
-pub fn leave_out<R: Files + AllocGlobal>(
+pub fn leave_out<R: KnownPaths + AllocGlobal>(
     rt: &R,
     exclude: &[&str],
     found: Found,
 ) -> Result<Found, AllocError>
-    ensures { IfOk result (λ kept.
-        All (Contains (map string_bytes found.files.items)) (map string_bytes kept.files.items)) }
+    ensures { IfOk result (λ kept. (paths : _) × AreOfPaths (texts exclude.now) paths
+        × AreKept (R.knows rt.now) paths found kept) }
 {
     let paths = paths_of(rt.alloc(), exclude)?;
     leave_out_paths(rt, &paths, found)
 }
 
 /// The same for paths that were read.
-pub fn leave_out_paths<R: Files + AllocGlobal>(
+pub fn leave_out_paths<R: KnownPaths + AllocGlobal>(
     rt: &R,
     paths: &Paths,
     found: Found,
 ) -> Result<Found, AllocError>
-    ensures { IfOk result (λ kept.
-        All (Contains (map string_bytes found.files.items)) (map string_bytes kept.files.items)) }
+    ensures { IfOk result (AreKept (R.knows rt.now) paths.now found) }
 {
     let Found { files, unlisted } = found;
     let files = kept_files(rt, paths, files)?;
-    let mut kept = Vec::new(rt.alloc());
-    for one in unlisted {
-        if !is_excluded(rt, paths, one.folder.as_str())? {
-            kept.push(one)?;
-        }
-    }
-    Ok(Found {
-        files,
-        unlisted: kept,
-    })
+    let unlisted = kept_folders(rt, paths, unlisted)?;
+    Ok(Found { files, unlisted })
 }
 
-fn kept_files<R: Files + AllocGlobal>(
+fn kept_files<R: KnownPaths + AllocGlobal>(
     rt: &R,
     paths: &Paths,
     files: Vec<String>,
 ) -> Result<Vec<String>, AllocError>
-    ensures { IfOk result (λ kept. All (Contains (map string_bytes files.items)) (map string_bytes kept.items)) }
+    ensures { IfOk result (λ kept. AreOutside
+        (λ file. IsExcluded (R.knows rt.now) paths.now (string_bytes file)) files.items kept.items) }
 {
     let mut kept = Vec::new(rt.alloc());
     for file in files {
@@ -66,15 +81,16 @@ fn kept_files<R: Files + AllocGlobal>(
     Ok(kept)
 }
 
-// Adds the file, unless it is left out.
-fn keep<R: Files + AllocGlobal>(
+// Adds the file, unless it is excluded.
+fn keep<R: KnownPaths + AllocGlobal>(
     rt: &R,
     paths: &Paths,
     file: String,
     kept: &mut Vec<String>,
 ) -> Result<(), AllocError>
-    ensures { OnOk result ((kept.new.items ≡ kept.old.items)
-        ⊎ (kept.new.items ≡ kept.old.items ++ file ∷ [])) }
+    ensures { OnOk result (AddsUnless
+        (IsExcluded (R.knows rt.now) paths.now (string_bytes file))
+        file kept.old.items kept.new.items) }
 {
     if is_excluded(rt, paths, file.as_str())? {
         return Ok(());
@@ -83,24 +99,51 @@ fn keep<R: Files + AllocGlobal>(
     Ok(())
 }
 
+fn kept_folders<R: KnownPaths + AllocGlobal>(
+    rt: &R,
+    paths: &Paths,
+    folders: Vec<Unlisted>,
+) -> Result<Vec<Unlisted>, AllocError>
+    ensures { IfOk result (λ kept. AreOutside
+        (λ one. IsExcluded (R.knows rt.now) paths.now (string_bytes one.folder))
+        folders.items kept.items) }
+{
+    let mut kept = Vec::new(rt.alloc());
+    for one in folders {
+        keep_folder(rt, paths, one, &mut kept)?;
+    }
+    Ok(kept)
+}
+
+// Adds the folder, unless it is excluded.
+fn keep_folder<R: KnownPaths + AllocGlobal>(
+    rt: &R,
+    paths: &Paths,
+    one: Unlisted,
+    kept: &mut Vec<Unlisted>,
+) -> Result<(), AllocError>
+    ensures { OnOk result (AddsUnless
+        (IsExcluded (R.knows rt.now) paths.now (string_bytes one.folder))
+        one kept.old.items kept.new.items) }
+{
+    if is_excluded(rt, paths, one.folder.as_str())? {
+        return Ok(());
+    }
+    kept.push(one)?;
+    Ok(())
+}
+
 /// Whether the file or folder is at one of these paths, or below it. The time hardly grows with their number.
-pub fn is_excluded<R: Files + AllocGlobal>(
+pub fn is_excluded<R: KnownPaths + AllocGlobal>(
     rt: &R,
     paths: &Paths,
     path: &str,
-) -> Result<bool, AllocError> {
-    match known(rt, path)? {
-        Some(path) => is_below_one(rt.alloc(), paths, path.as_str()),
+) -> Result<bool, AllocError>
+    ensures { IfOk result (IsExcluded (R.knows rt.now) paths.now path.now) }
+{
+    match rt.known(path)? {
+        Some(known) => is_below_one(rt.alloc(), paths, known.as_str()),
         None => Ok(false),
-    }
-}
-
-// The path by which the system knows the file or folder, if it has one.
-fn known<R: Files + AllocGlobal>(rt: &R, path: &str) -> Result<Option<String>, AllocError> {
-    match fs::canonicalize(rt, path) {
-        Ok(known) => Ok(Some(known.into_string())),
-        Err(error) if error.kind() == io::ErrorKind::OutOfMemory => Err(AllocError),
-        Err(_) => Ok(None),
     }
 }
 

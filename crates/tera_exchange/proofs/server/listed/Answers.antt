@@ -11,7 +11,7 @@ returns-in-Some g c =
     let paths = texts c.args.paths.now in
     let found = c.in_ok-found.found in
     let is : IsFound extensions paths found = subst (λ es. IsFound es paths found) (ap texts c.as_slice.ensures.value ∙ c.in_ok-extensions.ensures) c.in_ok-found.ensures in
-    listed_but c.leave_out_paths.result extensions paths found is c.leave_out_paths.ensures
+    listed_but _ _ c.leave_out_paths.result extensions paths found is c.leave_out_paths.ensures
 
 pub returns : goal.returns
 returns g c =

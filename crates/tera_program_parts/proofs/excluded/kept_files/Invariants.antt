@@ -1,6 +1,7 @@
-use Rattle.std.proofs.Common.{All, Contains, map, string_bytes}
+use Rattle.std.proofs.Common.{string_bytes}
+use Rattle.tera_program_parts.specs.Excluded.{AreOutside, IsExcluded}
 use Rattle.tera_program_parts.proofs.excluded.kept_files.Given as goal
 
--- those that are kept are among those that were seen
+-- those that are kept, of those that were seen
 abbrev pub invariant-loop-file : goal.invariant-loop-file
-invariant-loop-file g l = All (Contains (map string_bytes l.yielded)) (map string_bytes l.kept.items)
+invariant-loop-file g l = AreOutside (λ file. IsExcluded (g.R.KnownPaths.knows l.rt) l.paths (string_bytes file)) l.yielded l.kept.items
