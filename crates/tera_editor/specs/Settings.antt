@@ -1,5 +1,5 @@
 -- What settings say of the templates below folders.
-use Rattle.std.specs.Prelude.{◌≡◌, ◌||◌, ℕ, List, [], Bool, false, not, cond, if◌then◌else◌, map, String, string_bytes, is_some, unwrap_or, Option, None, Some, Vec}
+use Rattle.std.specs.Prelude.{◌≡◌, ◌||◌, ◌==◌, ℕ, List, [], length, Bool, false, not, cond, if◌then◌else◌, map, String, string_bytes, is_some, unwrap_or, Option, None, Some, Vec}
 use Rattle.std.specs.BTreeMap.{get_by_text}
 use Rattle.std.specs.List.{filter_map, find, list_any}
 use Rattle.std.specs.Option.{option_and_then, option_map, option_map_or}
@@ -131,7 +131,12 @@ abbrev pub finds_more_if_any : Option SettingsVal → Bool
 finds_more_if_any None = false
 finds_more_if_any (Some settings) = finds_more settings
 
--- .. in a file
+-- other findings are reported by them than without: more is found, or rules are set
+abbrev pub reports_others : Option SettingsVal → Bool
+reports_others None = false
+reports_others (Some settings) = finds_more settings || not (length settings.rules == 0)
+
+-- .. more is found in a file
 abbrev pub finds_more_in_file : Settings → List (List ℕ) → List ℕ → Bool
 finds_more_in_file s folders file = is_some (markers_for s folders file) || finds_more_if_any (settings_for s folders file)
 

@@ -236,6 +236,17 @@ impl Settings {
         }
     }
 
+    /// Whether other findings are reported in a folder by its settings than without settings: more is found, or rules
+    /// are set.
+    pub fn reports_others_in(&self, folder: &str) -> bool
+        ensures { result ≡ specs.reports_others (settings_in self.now folder.now) }
+    {
+        match self.of_folders.get(folder) {
+            Some(settings) => settings.finds_more() || !settings.rules.is_empty(),
+            None => false,
+        }
+    }
+
     /// What is reported of the files in a folder, by its settings.
     pub fn reported_in(&self, folder: &str) -> Reported<'_>
         ensures { reported_view result ≡ specs.reported_in (settings_in self.now folder.now) }

@@ -8,7 +8,7 @@ use Rattle.tera_workspace.specs.SiteValues.{no_site}
 use Rattle.tera_workspace.specs.Workspaces.{reported_of_name}
 use Rattle.tera_workspace.specs.declared.workspace.Workspace.{Workspace}
 use Rattle.tera_server.specs.Sending.{unpublished_of}
-use Rattle.tera_editor.specs.Settings.{SettingsVal, file_in, finds_more, finds_more_if_any, reported_in, settings_in, settings_view}
+use Rattle.tera_editor.specs.Settings.{SettingsVal, file_in, finds_more, finds_more_if_any, reported_in, reports_others, settings_in, settings_view}
 use Rattle.tera_editor.specs.Sites.{AreGiven, IsSiteAt, SitedVal, sited_in, with_nothing_known}
 use Rattle.tera_server.specs.States.{Grows, edited_of, needed_of, needs}
 use Rattle.tera_editor.specs.Templates.{is_inside}
@@ -52,6 +52,20 @@ finds_more_by found_as.Nothing old = finds_more_if_any old
 finds_more_by (found_as.Set file settings) old = finds_more (settings_view settings) || finds_more_if_any old
 finds_more_by (found_as.Wrong file why) old = false
 
+-- other findings are reported by the settings of another folder, which is in the folder or around it
+abbrev pub reports_others_near : Server → List ℕ → List ℕ → Bool
+reports_others_near s folder other = (is_inside folder other || is_inside other folder) && reports_others (settings_in s.settings other)
+
+-- the folder is closed, and those of an open folder may count now in files for which its own did
+abbrev pub is_left_to_others : Server → List ℕ → Bool
+is_left_to_others s folder =
+    let folders = map string_bytes s.folders.items in
+    not (list_any (λ f. bytes_eq f folder) folders) && list_any (reports_others_near s folder) folders
+
+-- all documents in the folder are to be published again
+abbrev pub are_all_due : Server → List ℕ → FoundSettings → Bool
+are_all_due s folder found = finds_more_by found (settings_in s.settings folder) || is_left_to_others s folder
+
 -- the site then, by that before; nothing is known of its documents and names yet
 abbrev pub site_below : Option (List ℕ) → Option SitedVal
 site_below root = option_map (λ r. with_nothing_known (no_site r [])) root
@@ -71,11 +85,11 @@ pub record IsUnconfigured (s t : Server) : Type 0 where
   pub given : AreGiven s.sites → AreGiven t.sites
 
 -- The documents in a folder that have findings are to be published, unless the same is reported there as before. If
--- more is found by the settings, or was, all its documents are.
+-- more is found by the settings, or was, all its documents are; also if it is closed and left to other folders.
 abbrev pub ArePublishedAgain : List ℕ → FoundSettings → Server → Server → Type 0
 ArePublishedAgain folder found s t =
     let old = settings_in s.settings folder in
-    let all = finds_more_by found old in
+    let all = are_all_due s folder found in
     ((all ≡ false) × (reported_in (settings_by found old) ≡ reported_in old) × (unpublished_of t ≡ unpublished_of s))
     ⊎ (unpublished_of t ≡ unpublished_of s ++ filter (is_due_inside s.workspace folder all) (map (λ d. d.name) (texts_read s.workspace)))
 

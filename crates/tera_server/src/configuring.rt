@@ -3,7 +3,7 @@
 ghost use Rattle.std.specs.Prelude.{◌≡◌, ◌++◌, false, true, map, string_bytes, IfOk, OnOk, OnErr};
 ghost use Rattle.std.specs.List.{filter, flat_map};
 ghost use Rattle.tera_workspace.specs.Definitions.{texts_read};
-ghost use Rattle.tera_server.specs.Configuring.{AreFoundSet, ArePublishedAgain, IsConfiguredBy, IsUnconfigured, finds_more_by, has_wrong_settings, is_due_inside, is_wrong_in, settings_by, site_below, site_by};
+ghost use Rattle.tera_server.specs.Configuring.{AreFoundSet, ArePublishedAgain, IsConfiguredBy, IsUnconfigured, are_all_due, finds_more_by, has_wrong_settings, is_due_inside, is_left_to_others, is_wrong_in, reports_others_near, settings_by, site_below, site_by};
 ghost use Rattle.tera_server.specs.Sending.{unpublished_of};
 ghost use Rattle.tera_editor.specs.Settings.{is_in_library, reported_in, settings_for, settings_in, settings_view};
 ghost use Rattle.tera_editor.specs.Sites.{AreGiven, IsSiteAt, sited_in};
@@ -12,7 +12,7 @@ ghost use Rattle.tera_editor.specs.UnreadFiles.{reason_view, why_of};
 ghost use Rattle.tera_server.specs.declared.configuring.FoundSettings.TheVariants as found_as;
 ghost use Rattle.tera_server.specs.declared.notes.NeededKind.TheVariants.{Folder};
 
-use crate::notes::{NeededKind, need_all};
+use crate::notes::{NeededKind, has_name, need_all};
 use crate::server::Server;
 use std::alloc::{AllocError, Global};
 use tera_editor::settings::FolderSettings;
@@ -44,7 +44,8 @@ impl Server {
 
     /// Sets what was found for the folder. If other findings are reported in it by that, because of other rules, its
     /// documents that have findings are published again; if something else is found by the settings than without, or
-    /// was, all its documents are.
+    /// was, all its documents are; also if the folder is closed, and other findings are reported by the settings of an
+    /// open folder in it or around it.
     /// After an allocation failure a part of this may be done.
     pub fn configure(
         &mut self,
@@ -130,7 +131,37 @@ impl Server {
         }
     }
 
-    // Whether nothing has to be published again, with what was found. `all` says that more is found by the settings.
+    // Whether the folder is closed, and other findings are reported by the settings of an open folder in it or around it.
+    // These may count now in files for which its own did.
+    fn is_left_to_others(&self, folder: &str) -> bool
+        ensures { result ≡ is_left_to_others self.now folder.now }
+    {
+        if has_name(self.folders.as_slice(), folder) {
+            return false;
+        }
+        for other in &self.folders {
+            if self.reports_others_near(folder, other.as_str()) {
+                return true;
+            }
+        }
+        false
+    }
+
+    fn reports_others_near(&self, folder: &str, other: &str) -> bool
+        ensures { result ≡ reports_others_near self.now folder.now other.now }
+    {
+        (is_inside(folder, other) || is_inside(other, folder))
+            && self.settings.reports_others_in(other)
+    }
+
+    // Whether all documents in the folder are to be published again, with what was found.
+    fn are_all_due(&self, folder: &str, found: &FoundSettings) -> bool
+        ensures { result ≡ are_all_due self.now folder.now found.now }
+    {
+        self.finds_more(folder, found) || self.is_left_to_others(folder)
+    }
+
+    // Whether nothing has to be published again, with what was found. `all` says that all documents have to be.
     fn keeps_published(&self, folder: &str, found: &FoundSettings, all: bool) -> bool
         ensures { let old = settings_in self.now.settings folder.now in
             result ≡ true → (all ≡ false) × (reported_in (settings_by found.now old) ≡ reported_in old) }
@@ -142,7 +173,7 @@ impl Server {
     }
 
     // If something else is reported than before, the files in the folder that have findings are to be published; if
-    // more is found by the settings, all its files are.
+    // more is found by the settings, or may be by those of another folder, all its files are.
     fn publish_if_others(
         &mut self,
         alloc: Global,
@@ -153,7 +184,7 @@ impl Server {
         ensures published { OnOk result (ArePublishedAgain folder.now found.now self.old self.new) }
         ensures grows { Grows (unpublished_of self.old) (unpublished_of self.new) }
     {
-        let all = self.finds_more(folder, found);
+        let all = self.are_all_due(folder, found);
         if self.keeps_published(folder, found, all) {
             Ok(())
         } else {

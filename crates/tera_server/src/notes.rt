@@ -261,8 +261,8 @@ pub(crate) fn add_name(alloc: Global, name: &str, names: &mut Vec<String>) -> Re
     Ok(())
 }
 
-// Whether the name is one of these.
-fn has_name(names: &[String], name: &str) -> bool
+/// Whether the name is one of these.
+pub(crate) fn has_name(names: &[String], name: &str) -> bool
     ensures { result ≡ list_any (λ m. bytes_eq m name.now) (map string_bytes names.now) }
 {
     names.iter().any(|one| one.as_str() == name)

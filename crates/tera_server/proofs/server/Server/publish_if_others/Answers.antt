@@ -9,7 +9,7 @@ use Rattle.tera_server.proofs.server.Server.publish_if_others.Goals as goal
 pub returns-then-keeps_published-clause-published : goal.returns-then-keeps_published-clause-published
 returns-then-keeps_published-clause-published c =
     let (none, same) = c.keeps_published.ensures c.if-keeps_published.true in
-    inl (sym c.finds_more-all.ensures ∙ none, same, refl)
+    inl (sym c.are_all_due-all.ensures ∙ none, same, refl)
 
 pub returns-then-keeps_published-clause-grows : goal.returns-then-keeps_published-clause-grows
 returns-then-keeps_published-clause-grows c = grows_same _
@@ -18,7 +18,7 @@ pub returns-else-keeps_published-clause-published : goal.returns-else-keeps_publ
 returns-else-keeps_published-clause-published c =
     let s = c.args.self.now in
     and_so c.publish_again.result c.publish_again.ensures.published
-    (λ h. inr (h ∙ ap (λ all. unpublished_of s ++ filter (is_due_inside s.workspace c.args.folder.now all) (map (λ d. d.name) (texts_read s.workspace))) c.finds_more-all.ensures))
+    (λ h. inr (h ∙ ap (λ all. unpublished_of s ++ filter (is_due_inside s.workspace c.args.folder.now all) (map (λ d. d.name) (texts_read s.workspace))) c.are_all_due-all.ensures))
 
 pub returns-else-keeps_published-clause-grows : goal.returns-else-keeps_published-clause-grows
 returns-else-keeps_published-clause-grows c =
