@@ -118,7 +118,7 @@ due_in x = map (used_of x.site.root) (filter is_entry_due x.presences.entries)
 abbrev pub due_of_sites : Sites → List UsedVal
 due_of_sites s = flat_map due_in s.all.items
 
--- it is to be asked of a name; and of no name
+-- whether it is to be asked if there is a file of a name; and that it is to be asked of none
 abbrev pub is_due_in : Option Presence → Bool
 is_due_in p = option_map_or (λ q. q.is_due) p false
 
@@ -169,7 +169,7 @@ pub record AreAround (names : List (List ℕ)) (old now : Sites) : Type 0 where
   pub as_many : length now.all.items ≡ length old.all.items
   pub each : (k : ℕ) (d : FolderSite) → k < length old.all.items → IsRenewed names (slice_index_or old.all.items k d) (slice_index_or now.all.items k d)
 
--- of each site what is known of names stays
+-- in each site what is known of names stays
 abbrev pub KeepsKnown : Sites → Sites → Type 0
 KeepsKnown old now = (k : ℕ) (d : FolderSite) → k < length old.all.items → AreStillKnown (slice_index_or old.all.items k d).presences (slice_index_or now.all.items k d).presences
 

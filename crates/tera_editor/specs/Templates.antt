@@ -38,7 +38,7 @@ name_in_first (f ∷ fs) file = option_or (name_below f file) (name_in_first fs 
 abbrev pub path_below : List ℕ → List ℕ → Option (List ℕ)
 path_below root file = option_and_then (following (codes "/")) (following root file)
 
--- by which templates have their names: the root of the site of a document, if it has one, or else the folders that are open
+-- where names of templates begin: below the root of the site of a document, if it has one, or else below open folders
 pub record RootsVal : Type 0 where
   pub site : Option (List ℕ)
   pub folders : List (List ℕ)

@@ -350,7 +350,7 @@ impl FolderSite {
         Ok(())
     }
 
-    // Whether there is news, also by what is said of the name now.
+    // Whether there is news, or will be after this is said of the name.
     fn is_news(&self, name: &str, is_there: bool) -> bool
         ensures { result ≡ false →
             (self.now.has_news ≡ false) × (specs.is_there_in (presence_in self.now name.now) ≡ is_there) }

@@ -9,8 +9,8 @@ ghost use Rattle.tera_editor.specs.Templates.{roots_view};
 
 use std::alloc::{AllocError, Global};
 
-/// By which templates have their names in a document: the root of its site, if it has one, or else the folders that are
-/// open.
+/// Where the names of templates begin for a document: below the root of its site, if it has one, or else below the open
+/// folders.
 #[derive(Clone, Copy)]
 pub struct Roots<'r> {
     pub site: Option<&'r str>,

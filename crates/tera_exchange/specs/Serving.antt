@@ -228,7 +228,7 @@ pub record IsGivenInPart (needed : NeededVal) (s t : Server) : Type 0 where
 abbrev pub AreNamesSaid : Server → Server → Type 0
 AreNamesSaid s t = OnlyNames s t
 
--- it is said of one of them whether there may be a file
+-- of one of these names it is said whether there may be a file
 abbrev pub IsNameSaid : UsedVal → Server → Server → Type 0
 IsNameSaid u s t = (there : Bool) × AreAround [] s.sites t.sites × IsPresenceSaid u there s t
 

@@ -517,7 +517,7 @@ fn settings_of<F: Files + Input + AllocGlobal>(
     }
 }
 
-// Gives what is under a path now: a folder, a file or nothing. If settings may be others by that, the open folders are
+// Gives what is under a path now: a folder, a file or nothing. If that may change the settings, the open folders are
 // asked for again.
 fn give_changed<F: Files + Input + AllocGlobal + Clone + Drop>(
     files: &F,
@@ -537,7 +537,7 @@ fn give_changed<F: Files + Input + AllocGlobal + Clone + Drop>(
     }
 }
 
-// Whether the path may be a file of settings, or has come since settings named a path at which nothing was.
+// Whether the path may be a file of settings, or is new while something is wrong in settings, which may name it.
 fn may_change_settings(files: &impl Files, server: &Server, path: &str) -> bool {
     if Path::new(path).file_name() == Some(NAME) {
         return true;

@@ -26,8 +26,8 @@ abbrev pub AreOfPaths : List (List ℕ) → BTreeSet Names → Type 0
 AreOfPaths texts paths =
     (names : List (List ℕ)) → has_names paths names ≡ list_any (λ text. are_names names (path_components text)) texts
 
--- A file is excluded, or is not, by a path by which the system may know it: exactly if there is one, and it is at one of
--- the folders or below it.
+-- Whether a file is excluded, by what the system may answer for it: it is if the answer is a path at one of the folders
+-- or below it.
 abbrev pub IsExcluded : (List ℕ → Option (List ℕ) → Type 0) → BTreeSet Names → List ℕ → Bool → Type 0
 IsExcluded knows paths file is =
     (known : Option (List ℕ)) × knows file known

@@ -17,7 +17,7 @@ pub record BeginsWithWord (text word rest : List ℕ) : Type 0 where
   pub solid : NoCharPasses is_whitespace word
   pub ends : (more : List ℕ) × EmptyOrStartsWithPassing is_whitespace rest more
 
--- these are all words of a text
+-- these are the words of a text, all of them in their order
 abbrev pub AreWords : List ℕ → List (List ℕ) → Type 0
 AreWords text [] = NoCharPasses is_not_whitespace text
 AreWords text (w ∷ ws) = (rest : List ℕ) × BeginsWithWord text w rest × AreWords rest ws
@@ -26,7 +26,7 @@ AreWords text (w ∷ ws) = (rest : List ℕ) × BeginsWithWord text w rest × Ar
 abbrev pub six : Marks → List (List ℕ)
 six m = m.block_start ∷ m.block_end ∷ m.variable_start ∷ m.variable_end ∷ m.comment_start ∷ m.comment_end ∷ []
 
--- the markers that are given are the words of the text; without one, they are the default ones
+-- the markers that are given are the words of the text; without a text, they are the default ones
 abbrev pub AreGivenBy : Option (List ℕ) → Marks → Type 0
 AreGivenBy None m = m ≡ default_marks
 AreGivenBy (Some text) m = AreWords text (six m)
@@ -41,14 +41,14 @@ abbrev pub HasNotSix : Option (List ℕ) → Type 0
 HasNotSix None = ⊥
 HasNotSix (Some text) = (ws : List (List ℕ)) × AreWords text ws × (length ws ≢ 6)
 
--- no template can be read with what is given; memory may always be short
+-- why no template can be read with what is given; an allocation may always fail
 abbrev pub IsUnfit : Option (List ℕ) → Unfit → Type 0
 IsUnfit words Memory = Unit {0}
 IsUnfit words Number = HasNotSix words
 IsUnfit words (Rule e) = (m : Marks) × AreGivenBy words m × ChecksAll (rules_of m) (Err e)
 IsUnfit words Unsteady = ⊥
 
--- .. or none can be laid out with it
+-- .. or why none can be laid out with it
 abbrev pub IsUnfitForLayout : Option (List ℕ) → Unfit → Type 0
 IsUnfitForLayout words Unsteady = (m : Marks) × AreGivenBy words m × IsValid m × (is_steady m ≡ false)
 IsUnfitForLayout words why = IsUnfit words why

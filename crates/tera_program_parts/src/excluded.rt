@@ -15,7 +15,7 @@ use tera_files::{Found, Unlisted};
 /// Paths by which the system knows files, each as its components.
 pub type Paths = BTreeSet<Vec<String>>;
 
-/// What knows files and folders by paths of its own: the system.
+/// A system, which may know a file or folder by another path.
 pub trait KnownPaths {
     // This may be its answer for the path.
     ghost knows: { Self → List ℕ → Option (List ℕ) → Type 0 };

@@ -33,7 +33,7 @@ why_found found_as.Nothing = None
 why_found (found_as.Set file settings) = None
 why_found (found_as.Wrong file why) = Some (reason_view why)
 
--- what is wrong in the file of settings of a folder is known, and of an open folder
+-- whether something is known to be wrong in the file of settings of a folder, and in that of an open folder
 abbrev pub is_wrong_in : Server → List ℕ → Bool
 is_wrong_in s folder = option_map_or (λ file. is_some (why_of s.unread file)) (file_in s.settings folder) false
 

@@ -126,7 +126,7 @@ pub record IsOfCurrentTexts (Holds : Server → Json → Type 0) (s : Server) (j
   pub reported : Holds t j
   pub stays : HasRead s t
 
--- by which templates have their names in a document: the root of its site, if it has one
+-- where the names of templates begin for a document: below the root of its site, if it has one
 abbrev pub roots_for : Server → List ℕ → RootsVal
 roots_for s name = record {
   site = option_map (λ site. site.root) (site_for s.sites (map string_bytes s.folders.items) name);

@@ -313,7 +313,7 @@ impl Server {
         }
     }
 
-    // By which templates have their names in the document.
+    // Where the names of templates begin for the document.
     fn roots_for(&self, file: &str) -> Roots<'_>
         ensures { roots_view result ≡ roots_for self.now file.now }
     {
