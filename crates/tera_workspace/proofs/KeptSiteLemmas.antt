@@ -22,7 +22,8 @@ use Rattle.tera_site.proofs.CountLemmas.{names_more}
 use Rattle.tera_site.proofs.KeptLemmas.{one_of}
 use Rattle.tera_workspace.specs.Definitions.{AreRead}
 use Rattle.tera_workspace.specs.Kept.{name_of}
-use Rattle.tera_workspace.specs.KeptSites.{IsKeptSite, around_file, documents_below, lacks_name, said_in, said_of}
+use Rattle.tera_workspace.specs.KeptSites.{IsKeptSite, around_file, documents_below, lacks_name, names_before, said_in, said_of, site_view}
+use Rattle.tera_workspace.specs.Near.{UseSame}
 use Rattle.tera_workspace.specs.SiteValues.{AroundFile, KeptSiteVal}
 use Rattle.tera_workspace.specs.Sites.{FitsWorkspace, IsKeptOf, Said, around_named, is_in, is_lacking, name_below, names_said}
 use Rattle.tera_workspace.specs.Sources.{AreInOrder}
@@ -32,6 +33,7 @@ use Rattle.tera_workspace.specs.declared.sites.KeptDocument.{KeptDocument}
 use Rattle.tera_workspace.specs.declared.sites.KeptSite.TheInside.{Inside}
 use Rattle.tera_workspace.specs.declared.workspace.Workspace.{Workspace}
 use Rattle.tera_workspace.proofs.BelowLemmas.{kept_files, said_below}
+use Rattle.tera_workspace.proofs.OtherNames.{others_kept}
 
 -- ---- what the documents say
 
@@ -224,11 +226,10 @@ around_found name kept o is = around_first name kept ∙ ap (option_map (λ (d :
 
 -- ---- a site as it is kept
 
-pub stale_kept : (s : Inside) → AreInOrder (map (λ (d : AroundFile). d.file) (map around_file s.documents.items)) → s.stale ≡ true → IsKeptSite s
-stale_kept s ordered stale = record {
-  ordered = ordered;
-  kept = λ fresh. absurd (true≢false (sym stale ∙ fresh));
-}
+-- one that was looked at with other names that its templates do not use
+pub same_kept : (s : Inside) → UseSame (names_before s.before s.others) (names_in s.others) (map said_of s.documents.items)
+    → IsKeptOf (record (site_view s) { others = names_before s.before s.others }) (map said_of s.documents.items) → IsKeptOf (site_view s) (map said_of s.documents.items)
+same_kept s = others_kept (string_bytes s.root) (names_before s.before s.others) (names_in s.others) (map string_bytes s.lacking.items) (map around_file s.documents.items) (map said_of s.documents.items)
 
 -- equal sets have the same names
 pub same_names : (xs ys : List (String Global)) → pointwise (λ x y. bytes_eq (string_bytes x) (string_bytes y)) xs ys ≡ true → map string_bytes xs ≡ map string_bytes ys

@@ -21,6 +21,7 @@ pub mod NewsLemmas
 pub mod NumberLemmas
 pub mod OpenedLemmas
 pub mod OrderLemmas
+pub mod OtherNames
 pub mod OthersNear
 pub mod PathLemmas
 pub mod PlaceLemmas

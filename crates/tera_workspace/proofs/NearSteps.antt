@@ -17,7 +17,7 @@ use Rattle.tera_site.specs.Sites.{used_names}
 use Rattle.tera_site.proofs.TourLemmas.{first_in, in_cases, later_in, none_in}
 use Rattle.tera_workspace.specs.KeptSites.{said_in}
 use Rattle.tera_workspace.specs.Names.{contains_name}
-use Rattle.tera_workspace.specs.Near.{Adds, AreNear, AreRight, AreThose, HasOwnBelow, IsOneOf, IsOnlyOther, number_in, numbers_in, own_lacking, own_name, set_each}
+use Rattle.tera_workspace.specs.Near.{Adds, AreNear, AreRight, AreThose, HasOwnBelow, IsOneOf, IsOnlyOther, RestUseSame, UseSame, UsesSame, number_in, numbers_in, own_lacking, own_name, set_each}
 use Rattle.tera_workspace.specs.Sites.{Said, name_below, names_said}
 use Rattle.tera_workspace.specs.declared.judged.Judged.{Judged}
 use Rattle.tera_workspace.specs.declared.sites.KeptDocument.{KeptDocument}
@@ -112,6 +112,32 @@ none_is before now number other is as_many over h = by_place before now (λ k. e
   | inr inside ↦ h.rest k (let p = inside.1 in omega (arith, p, over)) (λ e. none_some k (sym is ∙ e))
 ])
 
+-- ---- which of them alone uses other names
+
+abbrev pub UseSoFar : List (List ℕ) → List (List ℕ) → List Said → ℕ → Option ℕ → Type 0
+UseSoFar was others before number other = (k : ℕ) (x : Said) → k < number → (other ≡ Some k → ⊥) → slice_get before k ≡ Some x → UsesSame was others x.page
+
+pub use_same : (was others : List (List ℕ)) (before : List Said) (number : ℕ) (other : Option ℕ) (d : Said) → slice_get before number ≡ Some d → UsesSame was others d.page
+    → UseSoFar was others before number other → UseSoFar was others before (number + 1) other
+use_same was others before number other d here same h k x below apart there = elim (eqb_tells k number) [
+  | inl equal ↦ subst (λ (y : Said). UsesSame was others y.page) (same_some d x (sym here ∙ ap (slice_get before) (sym equal.1) ∙ there)) same
+  | inr less ↦ h k x (let ne = less.1 in omega (arith, below, ne)) apart there
+]
+
+pub use_found : (was others : List (List ℕ)) (before : List Said) (number : ℕ) → UseSoFar was others before number None → UseSoFar was others before (number + 1) (Some number)
+use_found was others before number h k x below apart there = elim (eqb_tells k number) [
+  | inl equal ↦ absurd (apart (ap Some (sym equal.1)))
+  | inr less ↦ h k x (let ne = less.1 in omega (arith, below, ne)) (λ is. none_some k is) there
+]
+
+pub use_rest : (was others : List (List ℕ)) (before : List Said) (number at : ℕ) (other : Option ℕ) → other ≡ Some at → length before ≤ number → UseSoFar was others before number other → RestUseSame at was others before
+use_rest was others before number at other is over h k x apart there =
+    h k x (let w = slice_get_within before k x there in omega (arith, w, over)) (λ e. apart (same_some k at (sym e ∙ is))) there
+
+pub use_all : (was others : List (List ℕ)) (before : List Said) (number : ℕ) (other : Option ℕ) → other ≡ None → length before ≤ number → UseSoFar was others before number other → UseSame was others before
+use_all was others before number other is over h k x there =
+    h k x (let w = slice_get_within before k x there in omega (arith, w, over)) (λ e. none_some k (sym is ∙ e)) there
+
 -- ---- numbers that are added
 
 pub adds_next : (numbered : List ℕ → Option ℕ) (bound : ℕ) (done : List (List ℕ)) (name : List ℕ) (before mid now : List ℕ)
@@ -125,7 +151,7 @@ adds_next numbered bound done name before mid now h g = record {
   ];
 }
 
-only_one : (name m : List ℕ) → Contains (name ∷ []) m → name ≡ m
+pub only_one : (name m : List ℕ) → Contains (name ∷ []) m → name ≡ m
 only_one name m has = elim (in_cases name [] m has) [ inl same ↦ same | inr none ↦ absurd (none_in m none) ]
 
 pub adds_nothing : (numbered : List ℕ → Option ℕ) (bound : ℕ) (name : List ℕ) (near : List ℕ) → ((n : ℕ) → numbered name ≡ Some n → IsOneOf near n) → Adds numbered bound (name ∷ []) near near

@@ -18,10 +18,10 @@ use Rattle.tera_site.specs.Pages.{PageVal}
 use Rattle.tera_site.specs.Sites.{AroundVal, IsAround, IsSiteOf, is_name, number_from, site_with, used_names}
 use Rattle.tera_site.proofs.ApartLemmas.{AreAllBelow, IsAlikeAt, IsClosed, alike_back, around_beside}
 use Rattle.tera_site.proofs.NearLemmas.{IsPart, around_near, page_near}
-use Rattle.tera_site.proofs.TourLemmas.{first_in, in_cases, later_in, none_in}
+use Rattle.tera_site.proofs.TourLemmas.{in_cases, none_in}
 use Rattle.tera_workspace.specs.Kept.{name_of}
 use Rattle.tera_workspace.specs.KeptSites.{around_file, said_in, said_of}
-use Rattle.tera_workspace.specs.Near.{AreInSite, AreNear, AreRight, AreThose, ConcernsThese, HaveAllBelow, IsKeptBy, IsOneOf, IsOnlyOther, IsRenewed, kept_now, kept_with, number_in, own_lacking, own_name, set_each}
+use Rattle.tera_workspace.specs.Near.{AreInSite, AreNear, AreRight, AreThose, ConcernsThese, HaveAllBelow, IsKeptBut, IsKeptBy, IsOneOf, IsOnlyOther, IsRenewed, kept_now, kept_with, number_in, own_lacking, own_name, set_each}
 use Rattle.tera_workspace.specs.SiteValues.{AroundFile}
 use Rattle.tera_workspace.specs.Sites.{AreRenewed, IsKeptOf, Said, following, is_lacking, name_below, names_lacking, names_said}
 use Rattle.tera_workspace.specs.Sources.{AreInOrder}
@@ -29,6 +29,7 @@ use Rattle.tera_workspace.specs.declared.judged.Judged.{Judged}
 use Rattle.tera_workspace.specs.declared.near.Renewed.{Renewed}
 use Rattle.tera_workspace.specs.declared.sites.KeptDocument.{KeptDocument}
 use Rattle.tera_workspace.proofs.BelowLemmas.{kept_files}
+use Rattle.tera_workspace.proofs.OtherNames.{filter_same, others_page, others_site, with_others}
 use Rattle.tera_workspace.proofs.OrderLemmas.{IsBefore, less_apart, same_text}
 
 pub none_some : {X : Type 0} (x : X) → None ≡ Some x → ⊥
@@ -239,13 +240,6 @@ part root js those at names listed near site h are =
 
 -- ---- what is around each template then
 
-filter_same : (test same : List ℕ → Bool) (ns : List (List ℕ)) → ((n : List ℕ) → Contains ns n → test n ≡ same n) → filter test ns ≡ filter same ns
-filter_same test same [] h = refl
-filter_same test same (n ∷ ns) h =
-    let first : test n ≡ same n = h n (first_in n ns) in
-    let rest : filter test ns ≡ filter same ns = filter_same test same ns (λ m has. h m (later_in n ns m has)) in
-    λ i. cond (first i) (n ∷ rest i) (rest i)
-
 in_one_of : (n : List ℕ) (ns : List (List ℕ)) → Contains ns n → is_one_of ns n ≡ true
 in_one_of n [] has = absurd (none_in n has)
 in_one_of n (m ∷ ns) has = elim (in_cases m ns n has) [
@@ -382,7 +376,7 @@ same_files before now files = by_place (map (λ (x : Said). x.file) before) (map
 
 module _ (root : List ℕ) (others : List (List ℕ)) (kept : List KeptDocument) (js those : List Judged) (at : ℕ) (near : List ℕ) (documents : List KeptDocument) (d e : KeptDocument) (lacking lacked : List (List ℕ))
     (listed : List ℕ → Bool)
-    (site : AreInSite root js) (other : IsOnlyOther at (map said_of kept) (map said_in js)) (by_kept : IsKeptBy root others lacking kept) (concerns : ConcernsThese root at (map said_of kept) js listed)
+    (site : AreInSite root js) (other : IsOnlyOther at (map said_of kept) (map said_in js)) (by_kept : IsKeptBut at root others lacking kept) (concerns : ConcernsThese root at (map said_of kept) js listed)
     (was : slice_get kept at ≡ Some d) (are_near : AreNear root (map said_in js) at (used_names (kept_page d.page)) listed near) (are : AreThose near js those)
     (small : IsKeptOf (kept_with root others lacked documents) (map said_in those)) (said : map said_of documents ≡ map said_in those)
     (made : slice_get documents 0 ≡ Some e) where
@@ -519,7 +513,7 @@ module _ (root : List ℕ) (others : List (List ℕ)) (kept : List KeptDocument)
 
   -- around each
   abbrev old : ℕ → AroundVal
-  old = by_kept.fits.around
+  old q = with_others names others (by_kept.kept_by.fits.around q)
 
   abbrev chosen : (q : ℕ) → Row near q → AroundVal
   chosen q (inl here) = record (small.around here.0) { has = both_has }
@@ -528,8 +522,16 @@ module _ (root : List ℕ) (others : List (List ℕ)) (kept : List KeptDocument)
   abbrev around : ℕ → AroundVal
   around q = chosen q (row near q)
 
+  was_site : IsSiteOf names (is_one_of by_kept.was) (pages before) by_kept.kept_by.fits.around
+  was_site = subst (λ ns. IsSiteOf ns (is_one_of by_kept.was) (pages before) by_kept.kept_by.fits.around) (same_names root at before now other) by_kept.kept_by.fits.site
+
   old_site : IsSiteOf names (is_one_of others) (pages before) old
-  old_site = subst (λ ns. IsSiteOf ns (is_one_of others) (pages before) old) (same_names root at before now other) by_kept.fits.site
+  old_site = others_site names by_kept.was others (pages before) by_kept.kept_by.fits.around was_site
+
+  old_each : (q : ℕ) (x : Said) (f : AroundFile) → (q ≡ at → ⊥) → slice_get before q ≡ Some x → slice_get (map around_file kept) q ≡ Some f → around_by f.around ≡ on_page x.page (old q)
+  old_each q x f apart here there =
+      by_kept.kept_by.fits.each q x f here there
+      ∙ others_page names by_kept.was others x.page (by_kept.kept_by.fits.around q) (was_site q x.page (viewed (λ (s : Said). s.page) before q x here)).has (by_kept.rest q x apart here)
 
   is_part : IsPart names (names_said root (map said_in those)) (pages now) (pages (map said_in those)) near
   is_part = part root js those at (used_names (kept_page d.page)) listed near site are_near are
@@ -562,7 +564,7 @@ module _ (root : List ℕ) (others : List (List ℕ)) (kept : List KeptDocument)
       let (h, is_h, new) = new_of q here.0 here.1 in
       near_each q here.0 x g here.1 says_x (is_h ∙ sym new ∙ there)
   each_by q x g (inr none) says_x there =
-      by_kept.fits.each q x (around_file g) (other.rest q (not_near q none) ∙ says_x) (viewed around_file kept q g (sym (each_rest kept near documents q none) ∙ there))
+      old_each q x (around_file g) (not_near q none) (other.rest q (not_near q none) ∙ says_x) (viewed around_file kept q g (sym (each_rest kept near documents q none) ∙ there))
 
   each : (q : ℕ) (x : Said) (f : AroundFile) → slice_get now q ≡ Some x → slice_get (map around_file news) q ≡ Some f → around_by f.around ≡ on_page x.page (around q)
   each q x f here there =
@@ -582,7 +584,7 @@ module _ (root : List ℕ) (others : List (List ℕ)) (kept : List KeptDocument)
     | inr apart ↦
         let old_g : slice_get kept q ≡ Some g = sym (set_there kept at q e apart.1) ∙ there in
         let says_g : slice_get before q ≡ Some (said_of g) = viewed said_of kept q g old_g in
-        lacks_by (kept_page g.page) (kept_around g.around) (old q) (by_kept.fits.each q (said_of g) (around_file g) says_g (viewed around_file kept q g old_g))
+        lacks_by (kept_page g.page) (kept_around g.around) (old q) (old_each q (said_of g) (around_file g) apart.1 says_g (viewed around_file kept q g old_g))
         (old_site q (kept_page g.page) (viewed (λ (s : Said). s.page) before q (said_of g) says_g)).has
   ]
 

@@ -1,9 +1,11 @@
 -- What the code keeps of a site.
-use Rattle.std.specs.Prelude.{◌≡◌, ◌≢◌, ◌&&◌, ◌||◌, ℕ, List, [], ◌∷◌, Bool, false, not, is_some, map, string_bytes, filter, length, ◌==◌}
+use Rattle.std.specs.Prelude.{◌≡◌, ◌≢◌, ◌&&◌, ◌||◌, ℕ, List, [], ◌∷◌, Bool, false, not, is_some, map, String, string_bytes, filter, length, Option, unwrap_or, ◌==◌}
+use Rattle.std.specs.BTreeSet.{BTreeSet}
 use Rattle.std.specs.Cmp.Lexicographic.{slice_cmp}
 use Rattle.std.specs.Ordering.{nat_cmp}
 use Rattle.std.specs.declared.cmp.Ordering.{Ordering}
 use Rattle.std.specs.declared.cmp.Ordering.TheVariants.{Less, Equal, Greater}
+use Rattle.std.specs.declared.alloc.Global.{Global}
 use Rattle.text_edits.specs.Documents.{text_of}
 use Rattle.text_edits.specs.Stored.{document_of}
 use Rattle.text_edits.specs.declared.documents.Documents.{Documents}
@@ -54,10 +56,14 @@ site_view s = record {
   documents = map around_file s.documents.items;
 }
 
--- what is kept is by what the templates said, unless the other names changed since
+-- the other names before, if they were others than these
+abbrev pub names_before : Option (BTreeSet (String Global)) → BTreeSet (String Global) → List (List ℕ)
+names_before before others = names_in (unwrap_or before others)
+
+-- what is kept is by what the templates said, with the other names before
 pub record IsKeptSite (s : Inside) : Type 0 where
   pub ordered : AreInOrder (map (λ d. d.file) (map around_file s.documents.items))
-  pub kept : s.stale ≡ false → IsKeptOf (site_view s) (map said_of s.documents.items)
+  pub kept : s.stale ≡ false → IsKeptOf (record (site_view s) { others = names_before s.before s.others }) (map said_of s.documents.items)
 
 -- ---- what is kept before and now, both in the order of the files
 

@@ -2,7 +2,8 @@
 -- one of these.
 use Rattle.std.specs.Prelude.{◌≡◌, ◌≢◌, ◌<◌, ◌⊎◌, ℕ, List, [], ◌∷◌, Bool, true, Option, Some, unwrap_or, is_some, option_map, length, map, set, slice_get, string_bytes}
 use Rattle.std.specs.List.{Contains}
-use Rattle.tera_site.specs.Kept.{AreAboveAlike, kept_around, kept_page, kept_view, names_missing}
+use Rattle.tera_site.specs.Kept.{AreAboveAlike, is_one_of, kept_around, kept_page, kept_view, names_missing}
+use Rattle.tera_site.specs.Pages.{PageVal}
 use Rattle.tera_site.specs.Sites.{number_from, used_names}
 use Rattle.tera_workspace.specs.Kept.{name_of}
 use Rattle.tera_workspace.specs.KeptSites.{around_file, said_in, said_of}
@@ -40,11 +41,21 @@ pub record IsOnlyOther (at : ℕ) (before now : List Said) : Type 0 where
   pub files : (k : ℕ) → option_map (λ x. x.file) (slice_get before k) ≡ option_map (λ x. x.file) (slice_get now k)
   pub rest : (k : ℕ) → (k ≡ at → ⊥) → slice_get before k ≡ slice_get now k
 
--- how what they say differs
-abbrev pub IsDifference : List Said → List Said → Difference → Type 0
-IsDifference before now differences.Same = before ≡ now
-IsDifference before now (differences.One at) = IsOnlyOther at before now
-IsDifference before now differences.Any = Unit {0}
+-- the same of the names that a page uses are other names before and now; those of all pages, or of all but one
+abbrev pub UsesSame : List (List ℕ) → List (List ℕ) → PageVal → Type 0
+UsesSame was others p = (n : List ℕ) → Contains (used_names p) n → is_one_of was n ≡ is_one_of others n
+
+abbrev pub UseSame : List (List ℕ) → List (List ℕ) → List Said → Type 0
+UseSame was others saids = (k : ℕ) (x : Said) → slice_get saids k ≡ Some x → UsesSame was others x.page
+
+abbrev pub RestUseSame : ℕ → List (List ℕ) → List (List ℕ) → List Said → Type 0
+RestUseSame at was others saids = (k : ℕ) (x : Said) → (k ≡ at → ⊥) → slice_get saids k ≡ Some x → UsesSame was others x.page
+
+-- how what they say differs, and which of them use other names
+abbrev pub IsDifference : List (List ℕ) → List (List ℕ) → List Said → List Said → Difference → Type 0
+IsDifference was others before now differences.Same = (before ≡ now) × UseSame was others before
+IsDifference was others before now (differences.One at) = IsOnlyOther at before now × RestUseSame at was others before
+IsDifference was others before now differences.Any = Unit {0}
 
 -- it says the same to those that extend it
 abbrev pub AreAlikeAt : ℕ → List Said → List Said → Type 0
@@ -54,12 +65,12 @@ AreAlikeAt at before now = (x y : Said) → slice_get before at ≡ Some x → s
 abbrev pub HasOwnBelow : List ℕ → (List ℕ → Bool) → Judged → Type 0
 HasOwnBelow root has j = (n : List ℕ) → (kept_page j.page).parent ≡ Some n → has n ≡ true → has (own_name root j) ≡ true
 
--- that of a number is one of them, and so are those of all that extend it, directly or indirectly
+-- the name of the template of a number is one of these names, and so are those of all that extend it, directly or indirectly
 pub record HaveAllBelow (root : List ℕ) (at : ℕ) (js : List Judged) (has : List ℕ → Bool) : Type 0 where
   pub own : (j : Judged) → slice_get js at ≡ Some j → has (own_name root j) ≡ true
   pub all : (number : ℕ) (j : Judged) → slice_get js number ≡ Some j → HasOwnBelow root has j
 
--- above other templates there is what was there
+-- what is above a template changes only for templates of these names
 abbrev pub ConcernsThese : List ℕ → ℕ → List Said → List Judged → (List ℕ → Bool) → Type 0
 ConcernsThese root at before js has = AreAlikeAt at before (map said_in js) ⊎ HaveAllBelow root at js has
 
@@ -98,7 +109,7 @@ set_each kept [] documents = kept
 set_each kept (n ∷ near) [] = kept
 set_each kept (n ∷ near) (d ∷ documents) = set_each (set kept n d) near documents
 
--- around the template of a number, one of these, something else is kept now
+-- the number is one of these, and something else is kept around its template now
 pub record IsOtherNear (kept : List KeptDocument) (near : List ℕ) (documents : List KeptDocument) (number : ℕ) : Type 0 where
   pub place : ℕ
   pub before : KeptDocument
@@ -108,7 +119,7 @@ pub record IsOtherNear (kept : List KeptDocument) (near : List ℕ) (documents :
   pub is : slice_get documents place ≡ Some now
   pub other : kept_view before.around ≢ kept_view now.around
 
--- these are the numbers of such ones
+-- these are exactly the numbers of such templates
 pub record AreOthersNear (kept : List KeptDocument) (near : List ℕ) (documents : List KeptDocument) (numbers : List ℕ) : Type 0 where
   pub others : (number : ℕ) → IsOneOf numbers number → IsOtherNear kept near documents number
   pub same : (place number : ℕ) (d e : KeptDocument) → slice_get near place ≡ Some number → slice_get kept number ≡ Some d → slice_get documents place ≡ Some e
@@ -127,6 +138,12 @@ kept_with root others lacking kept = record { root = root; others = others; lack
 pub record IsKeptBy (root : List ℕ) (others lacking : List (List ℕ)) (kept : List KeptDocument) : Type 0 where
   pub ordered : AreInOrder (map (λ d. d.file) (map around_file kept))
   pub fits : IsKeptOf (kept_with root others lacking kept) (map said_of kept)
+
+-- .. with other names before of which all but the template of a number use the same
+pub record IsKeptBut (at : ℕ) (root : List ℕ) (others lacking : List (List ℕ)) (kept : List KeptDocument) : Type 0 where
+  pub was : List (List ℕ)
+  pub kept_by : IsKeptBy root was lacking kept
+  pub rest : RestUseSame at was others (map said_of kept)
 
 abbrev pub kept_now : List KeptDocument → Renewed → List KeptDocument
 kept_now kept r = set_each kept r.near.items r.documents.items

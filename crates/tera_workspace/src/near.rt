@@ -2,16 +2,16 @@
 //!
 //! Around a template to which no way leads from that one, and which extends it neither directly nor indirectly, there is
 //! what was there. So only these are looked at again: the template, those that extend it if it says something else to
-//! them, and those to which a way leads from one of these.
+//! them; and with them those to which a way leads from one of these, which are needed to find what is around them.
 
 ghost use Rattle.std.specs.Prelude.{◌≡◌, ◌<◌, ◌∷◌, [], true, false, ℕ, List, Some, length, map, set, slice_get, string_bytes, IfOk, OnOk, MatchOption};
 ghost use Rattle.std.specs.BTreeSet.{keys};
 ghost use Rattle.std.specs.List.{flat_map};
-ghost use Rattle.tera_site.specs.Kept.{kept_page, names_in};
+ghost use Rattle.tera_site.specs.Kept.{is_one_of, kept_page, names_in};
 ghost use Rattle.tera_site.specs.Sites.{used_names};
-ghost use Rattle.tera_workspace.specs.KeptSites.{around_file, said_in, said_of};
+ghost use Rattle.tera_workspace.specs.KeptSites.{around_file, names_before, said_in, said_of};
 ghost use Rattle.tera_workspace.specs.Names.{contains_name};
-ghost use Rattle.tera_workspace.specs.Near.{Adds, AreInSite, AreNear, AreOthersNear, AreRight, AreThose, ConcernsThese, HaveAllBelow, HasOwnBelow, IsDifference, IsKeptBy, IsOnlyOther, IsRenewed, numbers_in, own_lacking, own_name, set_each};
+ghost use Rattle.tera_workspace.specs.Near.{Adds, AreInSite, AreNear, AreOthersNear, AreRight, AreThose, ConcernsThese, HaveAllBelow, HasOwnBelow, IsDifference, IsKeptBut, IsOnlyOther, IsRenewed, UsesSame, numbers_in, own_lacking, own_name, set_each};
 ghost use Rattle.tera_workspace.specs.Sites.{AreRenewed};
 ghost use Rattle.tera_workspace.specs.Sources.{AreInOrder};
 
@@ -42,36 +42,91 @@ pub(crate) struct Renewed {
 #[derive(Clone, Copy, Debug)]
 pub(crate) enum Difference {
     Same,
-    /// Only the document of this number says something else.
+    /// Only the document of this number says something else, or uses a name that only one of the sets of names has.
     One(usize),
     /// Other documents may be there, and any of them may say something else.
     Any,
 }
 
-/// How what these documents say differs from what was kept.
-pub(crate) fn compared(kept: &Vec<KeptDocument>, below: &Vec<&Judged>) -> Difference
-    ensures { IsDifference (map said_of kept.now.items) (map said_in (map (λ j. j.now) below.now.items)) result }
+/// How what these documents say differs from what was kept with the names `before`, if these are not `others` too.
+pub(crate) fn compared(
+    alloc: Global,
+    before: &Option<BTreeSet<String>>,
+    others: &BTreeSet<String>,
+    kept: &Vec<KeptDocument>,
+    below: &Vec<&Judged>,
+) -> Result<Difference, AllocError>
+    ensures { IfOk result (IsDifference (names_before before.now others.now) (names_in others.now)
+        (map said_of kept.now.items) (map said_in (map (λ j. j.now) below.now.items))) }
 {
     if kept.len() != below.len() {
-        return Difference::Any;
+        return Ok(Difference::Any);
     }
     let mut other = None;
     for (number, judged) in below.iter().enumerate() {
-        if !is_kept(&kept[number], judged) {
+        if !is_as_before(alloc, before, others, &kept[number], judged)? {
             if other.is_some() || kept[number].file != judged.template.file {
-                return Difference::Any;
+                return Ok(Difference::Any);
             }
             other = Some(number);
         }
     }
     match other {
-        Some(at) => Difference::One(at),
-        None => Difference::Same,
+        Some(at) => Ok(Difference::One(at)),
+        None => Ok(Difference::Same),
     }
 }
 
-/// What changes if only the document of this number says something else than before. `None` if many documents are to be
-/// looked at.
+// Whether what the template of the document says is what is kept, and it uses no name that only one of the sets has.
+fn is_as_before(
+    alloc: Global,
+    before: &Option<BTreeSet<String>>,
+    others: &BTreeSet<String>,
+    kept: &KeptDocument,
+    judged: &Judged,
+) -> Result<bool, AllocError>
+    ensures said { IfOk result (λ same. same ≡ true → said_of kept.now ≡ said_in judged.now) }
+    ensures names { IfOk result (λ same. same ≡ true →
+        UsesSame (names_before before.now others.now) (names_in others.now) (kept_page kept.now.page)) }
+{
+    if !is_kept(kept, judged) {
+        return Ok(false);
+    }
+    uses_same(alloc, before, others, &kept.page)
+}
+
+// Whether both sets have the same of the names that the page uses.
+fn uses_same(
+    alloc: Global,
+    before: &Option<BTreeSet<String>>,
+    others: &BTreeSet<String>,
+    page: &KeptPage,
+) -> Result<bool, AllocError>
+    ensures { IfOk result (λ same. same ≡ true →
+        UsesSame (names_before before.now others.now) (names_in others.now) (kept_page page.now)) }
+{
+    let Some(before) = before else {
+        return Ok(true);
+    };
+    let page = page.page(alloc)?;
+    for name in &page.used_names(alloc)? {
+        if !have_same(before, others, name) {
+            return Ok(false);
+        }
+    }
+    Ok(true)
+}
+
+// Whether both sets have the name, or none of them.
+fn have_same(before: &BTreeSet<String>, others: &BTreeSet<String>, name: &str) -> bool
+    ensures { result ≡ true →
+        is_one_of (names_in before.now) name.now ≡ is_one_of (names_in others.now) name.now }
+{
+    before.contains(name) == others.contains(name)
+}
+
+/// What changes if only the document of this number says something else than before, or uses a name that came to the
+/// other names or left them. `None` if many documents are to be looked at.
 pub(crate) fn renewed_at(
     alloc: Global,
     root: &str,
@@ -83,7 +138,7 @@ pub(crate) fn renewed_at(
 ) -> Result<Option<Renewed>, AllocError>
     requires site { AreInSite root.now (map (λ j. j.now) below.now.items) }
     requires other { IsOnlyOther at (map said_of kept.now.items) (map said_in (map (λ j. j.now) below.now.items)) }
-    requires kept { IsKeptBy root.now (names_in others.now) (map string_bytes lacking.now.items) kept.now.items }
+    requires kept { IsKeptBut at root.now (names_in others.now) (map string_bytes lacking.now.items) kept.now.items }
     ensures { IfOk result (λ renewed. MatchOption renewed (Unit {0}) (IsRenewed root.now (names_in others.now)
         kept.now.items (map (λ j. j.now) below.now.items))) }
 {
@@ -253,7 +308,7 @@ fn put_all(
     Ok(())
 }
 
-// Puts the numbers of the documents that the page uses. Whether all of them were put: if there are many, they are not.
+// Puts the numbers of the documents that the page uses. `false` if there are too many: then some may be missing.
 fn put_used(
     alloc: Global,
     near: &mut Vec<usize>,

@@ -32,11 +32,13 @@ pub struct KeptSite {
     root: String,
     // The names of templates that are in the site and are not documents.
     others: BTreeSet<String>,
+    // These when the site was looked at last, if they were others.
+    before: Option<BTreeSet<String>>,
     // In the order of the files.
     documents: Vec<KeptDocument>,
     // The names that its templates use and that no template has.
     lacking: Vec<String>,
-    // Whether the other names changed since the site was looked at.
+    // Whether the site was not looked at yet.
     stale: bool,
 }
 
@@ -77,6 +79,7 @@ impl KeptSite {
         Ok(KeptSite {
             root: String::from_str(alloc, root)?,
             others,
+            before: None,
             documents: Vec::new(alloc),
             lacking: Vec::new(alloc),
             stale: true,
@@ -104,8 +107,10 @@ impl KeptSite {
         if self.others == others {
             return;
         }
-        self.others = others;
-        self.stale = true;
+        let before = mem::replace(&mut self.others, others);
+        if self.before.is_none() {
+            self.before = Some(before);
+        }
     }
 
     /// What is kept around the template in the file of this name, if it is in the site.
@@ -115,10 +120,11 @@ impl KeptSite {
         around_in(&self.documents, name)
     }
 
-    /// Brings what is kept up to date, once the documents that changed were read. If documents came or went, a template
-    /// says something else of others, or the other names changed, it finds again what is around each template. The
-    /// answer names, in their order, the documents around whose templates this changed, and those that came or went.
-    /// After an allocation failure nothing changes.
+    /// Brings what is kept up to date, once the documents that changed were read. If only one of them says something else
+    /// of others, or uses a name that came to the other names or left them, it finds again what is around the templates
+    /// near that one. Else, if anything changed, it does so for all templates. The answer names, in their order, the
+    /// documents around whose templates this changed, and those that came or went. After an allocation failure nothing
+    /// changes.
     pub fn renew(&mut self, alloc: Global, workspace: &Workspace) -> Result<Vec<String>, AllocError>
         ensures fits { IsKept workspace.now → AreRead workspace.now →
             OnOk result (FitsWorkspace self.new workspace.now) }
@@ -135,8 +141,12 @@ impl KeptSite {
             &workspace.judged,
         )?;
         if !self.stale {
-            match compared(&self.documents, &below) {
-                Difference::Same => return Ok(Vec::new(alloc)),
+            let difference = compared(alloc, &self.before, &self.others, &self.documents, &below)?;
+            match difference {
+                Difference::Same => {
+                    self.before = None;
+                    return Ok(Vec::new(alloc));
+                }
                 Difference::One(at) => {
                     let renewed = renewed_at(
                         alloc,
@@ -151,6 +161,7 @@ impl KeptSite {
                         let near = renewed.near;
                         put_each(&mut self.documents, &near, renewed.documents);
                         self.lacking = renewed.lacking;
+                        self.before = None;
                         return Ok(renewed.names);
                     }
                 }
@@ -161,6 +172,7 @@ impl KeptSite {
         let names = renewed(alloc, &self.documents, &documents)?;
         self.documents = documents;
         self.lacking = lacking;
+        self.before = None;
         self.stale = false;
         Ok(names)
     }

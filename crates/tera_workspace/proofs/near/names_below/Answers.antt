@@ -1,4 +1,4 @@
-use Rattle.std.proofs.Common.{◌≡◌, ◌∙◌, Bor, Some, true, map, sym, subst}
+use Rattle.std.proofs.Common.{◌≡◌, ◌∙◌, Bor, Some, true, sym, subst}
 use Rattle.std.specs.Prelude.{slice_get}
 use Rattle.std.proofs.lemmas.List.{get_or_read}
 use Rattle.tera_workspace.specs.Names.{contains_name}

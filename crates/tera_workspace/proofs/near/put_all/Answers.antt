@@ -1,4 +1,4 @@
-use Rattle.std.proofs.Common.{◌≡◌, ◌∙◌, ◌∷◌, ◌++◌, ℕ, Bor, List, [], append_assoc, length, map, ap, sym}
+use Rattle.std.proofs.Common.{◌∙◌, ◌∷◌, ◌++◌, ℕ, Bor, List, [], append_assoc, length, map, ap, sym}
 use Rattle.tera_workspace.specs.Near.{numbers_in}
 use Rattle.tera_workspace.specs.declared.judged.Judged.{Judged}
 use Rattle.tera_workspace.proofs.NearSteps.{adds_next}

@@ -1,4 +1,4 @@
-use Rattle.std.proofs.Common.{◌≡◌, ◌∷◌, ◌<◌, Bor, List, ℕ, [], get_or, length, map, take, sym, subst}
+use Rattle.std.proofs.Common.{◌<◌, Bor, List, ℕ, [], get_or, length, map, take, sym, subst}
 use Rattle.std.proofs.lemmas.List.{get_or_default}
 use Rattle.tera_site.specs.Views.{names_of}
 use Rattle.tera_site.proofs.CountLemmas.{names_more}

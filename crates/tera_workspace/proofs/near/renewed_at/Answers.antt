@@ -26,7 +26,7 @@ near_there : (root : List ℕ) (js : List Judged) (at : ℕ) (names : List (List
 near_there root js at names has o v is h = subst (λ x. MatchOption x (Unit {0}) (λ v. AreNear root (map said_in js) at names has v.items)) is h
 
 pub lacking_with-requires-clause-before : goal.lacking_with-requires-clause-before
-lacking_with-requires-clause-before c = lacking_kept c.args.root.now (names_in c.args.others.now) (map string_bytes c.args.lacking.now.items) c.args.kept.now.items c.requires.kept
+lacking_with-requires-clause-before c = lacking_kept c.args.root.now c.requires.kept.was (map string_bytes c.args.lacking.now.items) c.args.kept.now.items c.requires.kept.kept_by
 
 pub names_of-requires-clause-files : goal.names_of-requires-clause-files
 names_of-requires-clause-files c =

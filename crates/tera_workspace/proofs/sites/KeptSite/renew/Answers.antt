@@ -1,13 +1,16 @@
 use Rattle.std.proofs.Common.{◌≡◌, ◌∙◌, ℕ, List, map, string_bytes, MatchOption, Option, Some, sym, ap, subst}
 use Rattle.tera_site.specs.Kept.{names_in}
-use Rattle.tera_workspace.specs.KeptSites.{around_file, documents_below, said_in, said_of, site_view}
-use Rattle.tera_workspace.specs.Near.{AreInSite, IsKeptBy, IsRenewed, kept_now, kept_with}
+use Rattle.tera_workspace.specs.KeptSites.{around_file, documents_below, names_before, said_in, said_of, site_view}
+use Rattle.tera_workspace.specs.Near.{AreInSite, IsDifference, IsKeptBut, IsRenewed, kept_now, kept_with}
 use Rattle.tera_workspace.specs.Sites.{AreRenewed, IsKeptOf}
 use Rattle.tera_workspace.specs.declared.judged.Judged.{Judged}
+use Rattle.tera_workspace.specs.declared.near.Difference.{Difference}
+use Rattle.tera_workspace.specs.declared.near.Difference.TheVariants as differences
 use Rattle.tera_workspace.specs.declared.near.Renewed.{Renewed}
 use Rattle.tera_workspace.specs.declared.sites.KeptDocument.{KeptDocument}
+use Rattle.tera_workspace.specs.declared.sites.KeptSite.TheInside.{Inside}
 use Rattle.tera_workspace.proofs.BelowLemmas.{kept_ordered}
-use Rattle.tera_workspace.proofs.KeptSiteLemmas.{at_root, now_fits, now_of, still_fits}
+use Rattle.tera_workspace.proofs.KeptSiteLemmas.{at_root, now_fits, now_of, same_kept, still_fits}
 use Rattle.tera_workspace.proofs.NearNames.{in_site}
 use Rattle.tera_workspace.proofs.RenewsLemmas.{none_renewed}
 use Rattle.tera_workspace.proofs.sites.KeptSite.renew.Goals as goal
@@ -16,6 +19,18 @@ is_renewed : (root : List ℕ) (others : List (List ℕ)) (kept : List KeptDocum
     → MatchOption o (Unit {0}) (IsRenewed root others kept js) → IsRenewed root others kept js r
 is_renewed root others kept js o r is h = subst (λ x. MatchOption x (Unit {0}) (IsRenewed root others kept js)) is h
 
+-- how they differ, where that is known
+known_there : (s : Inside) (js : List Judged) (found known : Difference) → found ≡ known
+    → IsDifference (names_before s.before s.others) (names_in s.others) (map said_of s.documents.items) (map said_in js) found
+    → IsDifference (names_before s.before s.others) (names_in s.others) (map said_of s.documents.items) (map said_in js) known
+known_there s js found known is h = subst (IsDifference (names_before s.before s.others) (names_in s.others) (map said_of s.documents.items) (map said_in js)) is h
+
+pub invariant_of-self : goal.invariant_of-self
+invariant_of-self c =
+    let s = c.self.inside in
+    let same = known_there s (now_of c.in_ok-below.below.items) c.in_ok-difference.difference differences.Same c.in-Same.is c.in_ok-difference.ensures in
+    record { ordered = c.self.invariant.ordered; kept = λ fresh. same_kept s same.1 (c.self.invariant.kept c.if-not-self.true) }
+
 pub returns-in-Same-clause-fits : goal.returns-in-Same-clause-fits
 returns-in-Same-clause-fits c = λ kept read.
     let s = c.self.inside in
@@ -23,10 +38,11 @@ returns-in-Same-clause-fits c = λ kept read.
     let below = now_of c.in_ok-below.below.items in
     let is : below ≡ documents_below (string_bytes s.root) w.documents w.judged.items =
     c.in_ok-below.ensures ∙ ap (λ root. documents_below root w.documents w.judged.items) c.as_str.ensures.value in
-    rw (← c.self.view_is) (still_fits (site_view s) w s.documents.items below is c.in-Same.ensures (c.self.invariant.kept c.if-not-self.true) kept read)
+    let same = known_there s below c.in_ok-difference.difference differences.Same c.in-Same.is c.in_ok-difference.ensures in
+    still_fits (site_view s) w s.documents.items below is same.0 (same_kept s same.1 (c.self.invariant.kept c.if-not-self.true)) kept read
 
 pub returns-in-Same-clause-names : goal.returns-in-Same-clause-names
-returns-in-Same-clause-names c = none_renewed (map string_bytes c.new.result.items) c.args.self.now.documents (ap (map string_bytes) c.new.ensures.items)
+returns-in-Same-clause-names c = rw (← c.self.view_is) (none_renewed (map string_bytes c.new.result.items) (map around_file c.self.inside.documents.items) (ap (map string_bytes) c.new.ensures.items))
 
 pub renewed_at-requires : goal.renewed_at-requires
 renewed_at-requires c =
@@ -36,10 +52,15 @@ renewed_at-requires c =
     let is : below ≡ documents_below (string_bytes s.root) w.documents w.judged.items =
     c.in_ok-below.ensures ∙ ap (λ root. documents_below root w.documents w.judged.items) c.as_str.ensures.value in
     let root = sym c.as_str-in-One.ensures.value in
+    let one = known_there s below c.in_ok-difference.difference (differences.One c.in-One.at) c.in-One.is c.in_ok-difference.ensures in
     record {
       site = subst (λ r. AreInSite r below) root (in_site (string_bytes s.root) w.documents w.judged.items below w.ordered is);
-      other = c.in-One.ensures;
-      kept = subst (λ r. IsKeptBy r (names_in s.others) (map string_bytes s.lacking.items) s.documents.items) root (record { ordered = c.self.invariant.ordered; fits = c.self.invariant.kept c.if-not-self.true });
+      other = one.0;
+      kept = subst (λ r. IsKeptBut c.in-One.at r (names_in s.others) (map string_bytes s.lacking.items) s.documents.items) root (record {
+        was = names_before s.before s.others;
+        kept_by = record { ordered = c.self.invariant.ordered; fits = c.self.invariant.kept c.if-not-self.true };
+        rest = one.1;
+      });
     }
 
 pub put_each-requires : goal.put_each-requires
@@ -49,8 +70,8 @@ put_each-requires c =
     c.in-Some.is c.in_ok-renewed-in-One.ensures in
     record { near = renewed.near; each = renewed.each }
 
-pub invariant_of-self : goal.invariant_of-self
-invariant_of-self c =
+pub invariant_of-self-in-Some : goal.invariant_of-self-in-Some
+invariant_of-self-in-Some c =
     let s = c.self.inside in
     let w = c.args.workspace.now in
     let below = now_of c.in_ok-below.below.items in
