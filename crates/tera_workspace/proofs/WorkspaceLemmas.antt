@@ -156,12 +156,12 @@ is_settled w js news is whole ordered current are texts = record {
 }
 
 pub kept_settled : (w : Workspace) (js : List Judged) (news : List News) → w.judged.items ≡ reported_each js news → AllWhole js → AreAscending (sources_of js) → AreCurrent w.encoding js → AreNews w.encoding js news
-    → ((n : List ℕ) → text_named n (sources_of js) ≡ unwrap_or (text_of (document_of w.documents n)) []) → IsKept w
+    → ((n : List ℕ) → is_among n (map string_bytes w.changed.items) ≡ false → text_named n (sources_of js) ≡ unwrap_or (text_of (document_of w.documents n)) []) → IsKept w
 kept_settled w js news is whole ordered current are texts = record {
   whole = subst AllWhole (sym is) (reported_whole js news whole);
   ordered = still_ordered js w.judged.items news is ordered;
   current = subst (AreCurrent w.encoding) (sym is) (now_current w.encoding js news current are);
-  texts = λ n free. ap (λ (xs : List Judged). text_named n (sources_of xs)) is ∙ ap (text_named n) (reported_sources js news) ∙ texts n;
+  texts = λ n free. ap (λ (xs : List Judged). text_named n (sources_of xs)) is ∙ ap (text_named n) (reported_sources js news) ∙ texts n free;
 }
 
 -- as a call answered that changes a document, or leaves all after an allocation failure
@@ -172,6 +172,17 @@ kept_either (Ok x) w ds changed key name change is same ok err k = kept_changed 
 kept_either (Err e) w ds changed key name change is same ok err k = kept_same w ds changed key name is same err k
 
 -- ---- documents that were read, and reported about
+
+same_sources : (js now : List Judged) (news : List News) → now ≡ reported_each js news → sources_of now ≡ sources_of js
+same_sources js now news is = ap sources_of is ∙ reported_sources js news
+
+pub same_templates : (js now : List Judged) (news : List News) → now ≡ reported_each js news → templates_of now ≡ templates_of js
+same_templates js now news is = ap templates_of is ∙ reported_templates js news
+
+pub still_kept : (w : Workspace) (now : Vec Judged Global) (news : List News) → IsKept w → (AllWhole w.judged.items → AreNews w.encoding w.judged.items news)
+    → now.items ≡ reported_each w.judged.items news → (ordered : AreAscending (sources_of now.items)) → IsKept (record w { judged = now; ordered = ordered })
+still_kept w now news k are is ordered =
+    kept_settled (record w { judged = now; ordered = ordered }) w.judged.items news is k.whole k.ordered k.current (are k.whole) k.texts
 
 module _ (w : Workspace) (now : Vec Judged Global) (news : List News) (k : IsKept w) (read : AreRead w)
     (are : AllWhole w.judged.items → AreNews w.encoding w.judged.items news) (is : now.items ≡ reported_each w.judged.items news) (ordered : AreAscending (sources_of now.items)) where
@@ -184,14 +195,11 @@ module _ (w : Workspace) (now : Vec Judged Global) (news : List News) (k : IsKep
   pub read_settled : IsSettled settled
   read_settled = is_settled settled w.judged.items news is k.whole k.ordered k.current (are k.whole) texts
 
-  pub read_kept : IsKept settled
-  read_kept = kept_settled settled w.judged.items news is k.whole k.ordered k.current (are k.whole) texts
+  sources_are : sources_of now.items ≡ sources_of w.judged.items
+  sources_are = same_sources w.judged.items now.items news is
 
-  same_sources : sources_of now.items ≡ sources_of w.judged.items
-  same_sources = ap sources_of is ∙ reported_sources w.judged.items news
-
-  same_templates : templates_of now.items ≡ templates_of w.judged.items
-  same_templates = ap templates_of is ∙ reported_templates w.judged.items news
+  templates_are : templates_of now.items ≡ templates_of w.judged.items
+  templates_are = same_templates w.judged.items now.items news is
 
   -- what is given by the documents is what was
   pub read_still : AreRead settled
@@ -201,23 +209,23 @@ module _ (w : Workspace) (now : Vec Judged Global) (news : List News) (k : IsKep
     templates = read.templates;
     read = read.read;
     definitions = λ n.
-        ap (λ ss. definition_by w.encoding ss (templates_of now.items) n) same_sources
-        ∙ ap (λ ts. definition_by w.encoding (sources_of w.judged.items) ts n) same_templates
+        ap (λ ss. definition_by w.encoding ss (templates_of now.items) n) sources_are
+        ∙ ap (λ ts. definition_by w.encoding (sources_of w.judged.items) ts n) templates_are
         ∙ read.definitions n;
-    texts = same_sources ∙ read.texts;
-    components = ap components_by same_templates ∙ read.components;
-    parameters = λ n. ap (λ ts. parameters_by ts n) same_templates ∙ read.parameters n;
+    texts = sources_are ∙ read.texts;
+    components = ap components_by templates_are ∙ read.components;
+    parameters = λ n. ap (λ ts. parameters_by ts n) templates_are ∙ read.parameters n;
     there =
-        ap (files_by w.documents) (names_are now.items ∙ ap (map (λ (s : Source). s.name)) same_sources ∙ sym (names_are w.judged.items)) ∙ read.there;
+        ap (files_by w.documents) (names_are now.items ∙ ap (map (λ (s : Source). s.name)) sources_are ∙ sym (names_are w.judged.items)) ∙ read.there;
     judgements = λ n j is. read.judgements n j
-        (subst (λ ss. IsJudgementIfAny ss (templates_of w.judged.items) n j) same_sources
-        (subst (λ ts. IsJudgementIfAny (sources_of now.items) ts n j) same_templates is));
+        (subst (λ ss. IsJudgementIfAny ss (templates_of w.judged.items) n j) sources_are
+        (subst (λ ts. IsJudgementIfAny (sources_of now.items) ts n j) templates_are is));
     unknown = λ r n.
-        ap (λ ss. unknown_by w.encoding ss (templates_of now.items) r n) same_sources
-        ∙ ap (λ ts. unknown_by w.encoding (sources_of w.judged.items) ts r n) same_templates
+        ap (λ ss. unknown_by w.encoding ss (templates_of now.items) r n) sources_are
+        ∙ ap (λ ts. unknown_by w.encoding (sources_of w.judged.items) ts r n) templates_are
         ∙ read.unknown r n;
     named = λ s fits.
         subst (AreNamed w.encoding read.sources (templates_below s.root w.documents read.templates) s.root s.others)
-        (λ i. named_by w.encoding (sym same_sources i) (sym same_templates i) s)
-        (read.named s (subst (λ ts. FitsTemplates s w.documents ts) same_templates fits));
+        (λ i. named_by w.encoding (sym sources_are i) (sym templates_are i) s)
+        (read.named s (subst (λ ts. FitsTemplates s w.documents ts) templates_are fits));
   }

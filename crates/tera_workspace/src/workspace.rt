@@ -32,6 +32,7 @@ impl Workspace {
     ghost use Rattle.text_edits.specs.Stored.{document_of, IsChangedAt, AreSame};
     ghost use Rattle.tera_workspace.specs.Definitions.{AreRead};
     ghost use Rattle.tera_workspace.specs.Diagnostics.{diagnostic_view};
+    ghost use Rattle.tera_workspace.specs.Kept.{templates_of};
     ghost use Rattle.tera_workspace.specs.Workspaces.{reported_of_name, IsKept, IsSettled, AreOthers};
 
     /// No documents. Positions are counted in units of the encoding.
@@ -165,6 +166,21 @@ impl Workspace {
         ensures err { OnErr result ((n : List ℕ) → reported_of_name self.new n ≡ reported_of_name self.old n) }
     {
         self.read(alloc)?;
+        self.settle_read(alloc)
+    }
+
+    /// Does the same by the texts that were read last: no document is read. After an allocation failure nothing changes.
+    pub fn settle_read(&mut self, alloc: Global) -> Result<Vec<String>, AllocError>
+        ensures encoding { self.new.encoding ≡ self.old.encoding }
+        ensures documents { self.new.documents ≡ self.old.documents }
+        ensures templates { templates_of self.new.judged.items ≡ templates_of self.old.judged.items }
+        ensures settled { IsKept self.old → AreRead self.old → OnOk result (IsSettled self.new) }
+        ensures read { IsKept self.old → AreRead self.old → OnOk result (AreRead self.new) }
+        ensures names { IsKept self.old → IfOk result (λ v.
+            AreOthers (map string_bytes v.items) (reported_of_name self.old) (reported_of_name self.new)) }
+        ensures kept { IsKept self.old → IsKept self.new }
+        ensures err { OnErr result (self.new ≡ self.old) }
+    {
         let news = news_of(alloc, self.encoding, &self.judged)?;
         let names = names_of(alloc, &self.judged, &news)?;
         report(&mut self.judged, news);
