@@ -1,6 +1,6 @@
 //! Suggestions without memory.
 
-use crate::shown::suggested;
+use crate::fixes_shown::suggested;
 use scarce_memory::{Attempt, Seen, Verdict, refuse};
 use std::alloc::Global;
 use std::test::Fail;

@@ -1,6 +1,6 @@
 //! Sources that are mended where memory is refused.
 
-use crate::reported::reported;
+use crate::mend_reported::reported;
 use scarce_memory::{Attempt, Seen, Verdict, refuse};
 use std::alloc::{AllocError, Global};
 use std::test::Fail;

@@ -1,6 +1,6 @@
 //! What is suggested, and the text that results.
 
-use crate::shown::suggested;
+use crate::fixes_shown::suggested;
 use std::test::Fail;
 
 const LIBRARY: &str =

@@ -1,6 +1,6 @@
 //! What is written for each kind of fault, by what is left of the tree.
 
-use crate::reported::reported;
+use crate::mend_reported::reported;
 use std::test::Fail;
 
 #[test]

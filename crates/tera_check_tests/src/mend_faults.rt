@@ -1,6 +1,6 @@
 //! Faults of a source with several, and the tree of what is right in it. A tag that is wrong becomes a comment.
 
-use crate::reported::{faults_reported, reported};
+use crate::mend_reported::{faults_reported, reported};
 use std::test::Fail;
 
 #[test]
