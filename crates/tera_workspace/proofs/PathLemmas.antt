@@ -4,13 +4,13 @@ use Rattle.std.specs.Option.{MatchOption}
 use Rattle.std.specs.Str.Pattern.{FindsTextPrefix, StripsPrefix}
 use Rattle.tera_workspace.specs.Sites.{following}
 
-is_after : (front rest : List ℕ) → following front (front ++ rest) ≡ Some rest
+pub is_after : (front rest : List ℕ) → following front (front ++ rest) ≡ Some rest
 is_after [] rest = refl
 is_after (f ∷ fs) rest =
     let same : nat_eq f f ≡ true = grind arith in
     ap (λ b. if b then following fs (fs ++ rest) else None) same ∙ is_after fs rest
 
-not_after : (front text : List ℕ) → ((rest : List ℕ) → text ≢ front ++ rest) → following front text ≡ None
+pub not_after : (front text : List ℕ) → ((rest : List ℕ) → text ≢ front ++ rest) → following front text ≡ None
 not_after [] text h = absurd (h text refl)
 not_after (f ∷ fs) [] h = refl
 not_after (f ∷ fs) (b ∷ bs) h = by (nat_eq f b) refl (λ same. not_after fs bs (λ rest is. h rest (cc)))

@@ -35,5 +35,5 @@ pub use between::Markers;
 pub use diagnostics::{Diagnostic, Related};
 pub use judgements::Judgement;
 pub use queries::{Definition, FileText};
-pub use sites::KeptSite;
+pub use sites::{KeptSite, name_below};
 pub use workspace::Workspace;

@@ -234,8 +234,8 @@ fn is_there(documents: &Documents, judged: &Judged) -> bool
     !judged.text.as_str().is_empty() || documents.text(judged.template.file.as_str()).is_some()
 }
 
-// The name of the template in this file, if it is below the root.
-pub(crate) fn name_below<'f>(root: &str, file: &'f str) -> Option<&'f str>
+/// The name of the template in a file: its path below the root of a site, if it is there.
+pub fn name_below<'f>(root: &str, file: &'f str) -> Option<&'f str>
     ensures { option_map (λ n. n.now) result ≡ name_below root.now file.now }
 {
     let path = file.strip_prefix(root)?;
