@@ -205,7 +205,7 @@ AreGivenInPart (NeedsFile path) s t = IsUnloaded path s t
 AreGivenInPart (NeedsFolder path) s t = IsOpenGivenInPart path s t
 AreGivenInPart (NeedsChanged path) s t = IsUnloaded path s t ⊎ (IsFolderGivenInPart path s t ⊎ AreAskedInPart s t)
 
--- first of each name that templates use and none has it is to be asked again whether there is a file
+-- first each name that templates use and none has is due again
 pub record IsLookedAgain (s t : Server) : Type 0 where
   pub only : OnlyNames s t
   pub due : AreDueAgain s.sites t.sites
@@ -223,12 +223,12 @@ pub record IsGivenInPart (needed : NeededVal) (s t : Server) : Type 0 where
   pub same : t ≡ record mid { needed = t.needed }
   pub again : (needed_of t ≡ needed_of mid ++ needed ∷ []) ⊎ (needed_of t ≡ needed_of mid)
 
--- the documents are read, and of names that templates use and none has it may be said whether there is a file; nothing
--- else changes
+-- the documents are read, and it may be set for names that templates use and none has whether there may be a file;
+-- nothing else changes
 abbrev pub AreNamesSaid : Server → Server → Type 0
 AreNamesSaid s t = OnlyNames s t
 
--- of one of these names it is said whether there may be a file
+-- for one of these names it is set whether there may be a file
 abbrev pub IsNameSaid : UsedVal → Server → Server → Type 0
 IsNameSaid u s t = (there : Bool) × AreAround [] s.sites t.sites × IsPresenceSaid u there s t
 

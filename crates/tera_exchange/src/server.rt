@@ -295,7 +295,7 @@ fn come_to_rest<F: Files + Input + AllocGlobal + Clone + Drop, W: Write>(
     }
 }
 
-// Gives what is asked for still, and then says of names whether there are files.
+// Gives what is still asked for, and then sets for each due name whether there may be a file of it.
 fn give_all<F: Files + Input + AllocGlobal + Clone + Drop>(
     files: &F,
     server: &mut Server,
@@ -308,7 +308,8 @@ fn give_all<F: Files + Input + AllocGlobal + Clone + Drop>(
     say_names(files, server)
 }
 
-// Says of each name that templates use and none has whether there may be a file of it.
+// Sets for each due name whether there may be a file of it. A name is due if templates use it, none has it, and it is not
+// known whether there is a file.
 fn say_names<F: Files + Input + AllocGlobal>(
     files: &F,
     server: &mut Server,
@@ -405,7 +406,7 @@ fn give_or_ask_again<F: Files + Input + AllocGlobal + Clone + Drop>(
     }
 }
 
-// Something may be another on disk, so also a file of a name may have come or gone.
+// Something changed on disk, so files of names that no template has may have come or gone too.
 fn give_anew<F: Files + Input + AllocGlobal + Clone + Drop>(
     files: &F,
     server: &mut Server,
@@ -568,7 +569,7 @@ fn give_template<F: Files + Input + AllocGlobal>(
     }
 }
 
-// Takes that a known file, or what may have been a folder, is gone.
+// Gives that there is nothing under a path now, where a known file was, or what may have been a folder.
 fn give_gone<F: Files + Input + AllocGlobal>(
     files: &F,
     server: &mut Server,

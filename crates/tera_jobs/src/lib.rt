@@ -5,7 +5,7 @@
 //! `terminal_text` for results.
 //!
 //! In the order of reading: `settings`, which file of settings counts; `reading`, the templates; `found`, `helps`, `forms`
-//! and `reporting`, what is found in them, counted and as text; `counting`, the last line; `fixing`, what is put right
+//! and `reporting`, what is found in them, counted and as text; `counting`, the summary line; `fixing`, what is put right
 //! in files; `plan`, what a file becomes; then a module for each subcommand.
 #![tactic(auto)]
 

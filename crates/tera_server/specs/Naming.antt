@@ -31,7 +31,7 @@ pub record AreNamesRead (s t : Server) : Type 0 where
   pub edited : edited_of t ≡ published_anyhow s ++ named
   pub renewed : renewed_of t.sites ≡ []
 
--- it is said of a name whether there may be a file
+-- it is set for a name whether there may be a file
 pub record IsPresenceSaid (u : UsedVal) (there : Bool) (s t : Server) : Type 0 where
   pub same : t ≡ record s { sites = t.sites }
   pub said : IsPresenceOf u there s.sites t.sites

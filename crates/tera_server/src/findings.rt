@@ -39,7 +39,7 @@ pub(crate) struct Publishing<'e> {
     pub(crate) related: bool,
     /// What rules are set to, and what the program registers, by the folders that are open.
     pub(crate) settings: &'e Settings,
-    /// By what names of templates are judged.
+    /// The sites by which names of templates are checked.
     pub(crate) sites: &'e Sites,
     /// What is found in documents that have other markers.
     pub(crate) between: &'e FaultsBetween,

@@ -10,8 +10,7 @@ use tera_editor::sites::UsedName;
 
 impl Server {
     /// Reads the documents that changed, and finds again what is around the templates below roots. Then `due_names` has
-    /// the names of which it is to be asked whether there is a file. After an allocation failure a part of that may be
-    /// done.
+    /// the names for which the caller has to look for a file. After an allocation failure a part of that may be done.
     pub fn read_names(&mut self, alloc: Global) -> Result<(), AllocError>
         ensures only { OnlyNames self.old self.new }
         ensures known { KeepsKnown self.old.sites self.new.sites }
@@ -21,14 +20,14 @@ impl Server {
         self.sites.renew(alloc, &self.workspace, &mut self.edited)
     }
 
-    /// The names that templates use and none has, of which it is not known whether there is a file.
+    /// The names that templates use and none has, as far as it is not known whether there is a file of the name.
     pub fn due_names(&self, alloc: Global) -> Result<Vec<UsedName>, AllocError>
         ensures { IfOk result (λ v. map used_view v.items ≡ due_of_sites self.now.sites) }
     {
         self.sites.due(alloc)
     }
 
-    /// There may be a file of this name below the root, or there is none. As long as that is not said, there may be.
+    /// Sets whether there may be a file of this name below the root. Until that is set, there may be one.
     pub fn set_presence(
         &mut self,
         alloc: Global,
@@ -42,7 +41,7 @@ impl Server {
         self.sites.set_presence(alloc, used, is_there)
     }
 
-    /// Files may have come or gone. Of each name that templates use and none has it is to be asked again.
+    /// Files may have come or gone: each name that templates use and none has is due again.
     pub fn look_again(&mut self)
         ensures only { OnlyNames self.old self.new }
         ensures around { AreAround [] self.old.sites self.new.sites }
