@@ -12,5 +12,6 @@ pub mod NearestLemmas
 pub mod NeedLemmas
 pub mod PublishLemmas
 pub mod RequestLemmas
+pub mod SettlingLemmas
 pub mod StepLemmas
 pub mod WithName

@@ -1,7 +1,8 @@
 -- Messages that are sent of documents, one after another.
-use Rattle.std.proofs.Common.{◌≡◌, Bor, Vec, Result, Ok, Err, OnErr, ◌∙◌, ◌<◌, ◌≤◌, ◌+◌, ◌++◌, ◌∷◌, [], ◌⊎◌, inl, inr, ◌||◌, ℕ, List, String, string_bytes, length, get_or, take, drop, map, Bool, true, false, if◌then◌else◌, cond, refl, sym, ap, subst, append_assoc}
+use Rattle.std.proofs.Common.{◌≡◌, Bor, Result, Ok, Err, OnErr, ◌∙◌, ◌<◌, ◌≤◌, ◌+◌, ◌++◌, ◌∷◌, [], ◌⊎◌, inl, inr, ◌||◌, ℕ, List, String, string_bytes, length, get_or, take, drop, map, Bool, true, false, if◌then◌else◌, cond, refl, sym, ap, subst, append_assoc}
 use Rattle.std.specs.BTreeSet.{BTreeSet, UpdatesBy}
 use Rattle.std.specs.Cmp.Lexicographic.{slice_cmp}
+use Rattle.std.specs.List.{slice_index_or}
 use Rattle.std.specs.Ordering.{nat_cmp}
 use Rattle.std.specs.Str.{bytes_eq}
 use Rattle.std.specs.declared.alloc.Global.{Global}
@@ -12,20 +13,24 @@ use Rattle.std.proofs.lemmas.Map.Text.{is_eq-slice_cmp}
 use Rattle.std.proofs.lemmas.Slice.Eq.{bytes_eq-Decides}
 use Rattle.json_rpc.specs.Outgoing.{Outgoing, more}
 use Rattle.tera_workspace.specs.Definitions.{AreRead}
+use Rattle.tera_workspace.specs.Kept.{templates_of}
 use Rattle.tera_workspace.specs.Names.{is_among, contains_name}
+use Rattle.tera_workspace.specs.SiteValues.{KeptSiteVal}
+use Rattle.tera_workspace.specs.Sites.{FitsTemplates, FitsWorkspace}
 use Rattle.tera_workspace.specs.Workspaces.{reported_of_name, IsKept, IsSettled, AreOthers}
 use Rattle.tera_workspace.specs.declared.workspace.Workspace.{Workspace}
 use Rattle.tera_workspace.proofs.NameSets.{among_append}
+use Rattle.text_edits.specs.Stored.{document_of}
 use Rattle.tera_server.specs.Between.{AreFaultsFor, Faults}
 use Rattle.tera_editor.specs.Editors.{state_of}
-use Rattle.tera_server.specs.Sending.{with_all, found_message, unless_lost, messages_in, Publisher, SendsFirst, names_once}
-use Rattle.tera_server.specs.Settling.{due_of, ArePublished, ArePublishedInPart}
+use Rattle.tera_server.specs.Sending.{with_all, found_message, unless_lost, messages_in, Publisher, publisher_of, SendsFirst, names_once, unpublished_of}
+use Rattle.tera_server.specs.Settling.{due_of, ArePublishedAsRead, ArePublishedInPart, OnlyReports}
 use Rattle.tera_server.specs.States.{edited_of}
-use Rattle.tera_editor.specs.Sites.{AreAround, AreFitting, AreGiven, AreSaid, HaveOthers, renewed_of}
+use Rattle.tera_editor.specs.Sites.{renewed_of}
 use Rattle.tera_editor.specs.declared.editor.DocumentState.{DocumentState}
 use Rattle.tera_editor.specs.declared.editor.DocumentState.TheVariants.{Open, Lost, Closed}
 use Rattle.tera_server.specs.declared.server.Server.{Server}
-use Rattle.tera_editor.specs.declared.sites.Sites.{Sites}
+use Rattle.tera_server.proofs.NamingLemmas.{NameList, names_of}
 use Rattle.tera_server.proofs.BetweenLemmas.{none_found, of_fewer}
 use Rattle.tera_editor.proofs.SiteLemmas.{among_either, around_same, is_head}
 
@@ -243,31 +248,17 @@ is_other before now names n same differs = by (is_among n names) same
 
 -- ---- what is published in part
 
-abbrev pub NameList : Type 0
-NameList = Vec (String Global) Global
-
-abbrev pub names_of : NameList → List (List ℕ)
-names_of v = map string_bytes v.items
-
--- the server after that, when w was found, and the sites by it: what is to be published is something else
-abbrev pub with_found : Server → Workspace → Sites → NameList → NameList → Server
-with_found s w sites unpublished edited = record s { workspace = w; sites = sites; unpublished = unpublished; edited = edited }
-
--- by what it publishes then
-abbrev pub publisher_by : Server → Sites → Faults → Publisher
-publisher_by s sites faults = record {
-  editor = s.editor;
-  unread = s.unread;
-  related = s.client.related;
-  settings = s.settings;
-  sites = sites;
-  between = faults;
-  folders = map string_bytes s.folders.items;
-}
+-- the server after that, when w is what is reported: what is to be published is something else
+abbrev pub with_found : Server → Workspace → NameList → NameList → Server
+with_found s w unpublished edited = record s { workspace = w; unpublished = unpublished; edited = edited }
 
 -- what is found then between other markers
 abbrev pub AreBetweenIn : Server → Workspace → List (List ℕ) → Faults → Type 0
 AreBetweenIn s w names faults = AreFaultsFor s.settings (map string_bytes s.folders.items) w names faults
+
+-- those that are due, when all of them are published anyhow
+pub due_anyhow : (s : Server) → unpublished_of s ≡ [] → due_of s ≡ edited_of s ++ renewed_of s.sites
+due_anyhow s none = ap (λ us. (edited_of s ++ us) ++ renewed_of s.sites) none ∙ ap (λ ns. ns ++ renewed_of s.sites) (append-nil (edited_of s))
 
 -- those of two lists are among those of three
 pub among_outer : (n : List ℕ) (xs ys zs : List (List ℕ)) → is_among n (xs ++ zs) ≡ true → is_among n ((xs ++ ys) ++ zs) ≡ true
@@ -276,63 +267,52 @@ among_outer n xs ys zs h = elim (among_either n xs zs h) [
   | inr e ↦ among_right n (xs ++ ys) zs e
 ]
 
+-- .. so they are still due, when others are to be published after them
+still_due : (s : Server) (others : NameList) (n : List ℕ) → unpublished_of s ≡ [] → is_among n (due_of s) ≡ true
+    → is_among n ((edited_of s ++ names_of others) ++ renewed_of s.sites) ≡ true
+still_due s others n none h = among_outer n (edited_of s) (names_of others) (renewed_of s.sites) (subst (λ ns. is_among n ns ≡ true) (due_anyhow s none) h)
+
+-- .. and what was edited is among them
+edited_due : (s : Server) (n : List ℕ) → is_among n (edited_of s) ≡ true → is_among n (due_of s ++ []) ≡ true
+edited_due s n h =
+    among_left n (due_of s) [] (among_left n (edited_of s ++ unpublished_of s) (renewed_of s.sites) (among_left n (edited_of s) (unpublished_of s) h))
+
+without_more : (s : Server) (n : List ℕ) → is_among n (due_of s ++ []) ≡ true → is_among n (due_of s) ≡ true
+without_more s n h = subst (λ ns. is_among n ns ≡ true) (append-nil (due_of s)) h
+
 -- none of those that were due were published, and nothing else is reported than before
-pub part_none : (s : Server) (w : Workspace) (sites : Sites) (unpublished due : NameList) (named : List (List ℕ)) (old : Outgoing) →
-    names_of due ++ renewed_of sites ≡ due_of s ++ named → AreAround named s.sites sites →
-    (IsKept s.workspace → (n : List ℕ) → (reported_of_name w n ≡ reported_of_name s.workspace n → ⊥) → is_among n (names_of unpublished) ≡ true) →
-    ArePublishedInPart s (with_found s w sites unpublished due) old old
-part_none s w sites unpublished due named old is around others = record {
-  names = [];
-  named = named;
-  around = around;
-  faults = λ n. [];
-  between = none_found s.settings (map string_bytes s.folders.items) w (λ n. []) (λ n. refl);
-  sent = sym (with_none old);
-  others = others;
-  due = λ n h. inr (among_outer n (names_of due) (names_of unpublished) (renewed_of sites) (subst (λ ns. is_among n ns ≡ true) (sym is) h));
-  only = λ n h. absurd (cc);
-}
-
--- .. as nothing was found
-pub part_before : (s : Server) (w : Workspace) (unpublished due : NameList) (old : Outgoing) →
-    names_of due ++ renewed_of s.sites ≡ due_of s → ((n : List ℕ) → reported_of_name w n ≡ reported_of_name s.workspace n) →
-    ArePublishedInPart s (with_found s w s.sites unpublished due) old old
-part_before s w unpublished due old is same =
-    part_none s w s.sites unpublished due [] old (is ∙ sym (append-nil (due_of s))) (around_same s.sites) (λ kept n differs. absurd (differs (same n)))
-
--- .. as not even those that were due are together
-pub part_same : (s : Server) (unpublished edited : NameList) (old : Outgoing) → edited.items ≡ s.edited.items → unpublished.items ≡ s.unpublished.items →
-    ArePublishedInPart s (with_found s s.workspace s.sites unpublished edited) old old
-part_same s unpublished edited old one other = record {
+pub part_none : (s : Server) (w : Workspace) (others : NameList) (old : Outgoing) → unpublished_of s ≡ [] →
+    (IsKept s.workspace → (n : List ℕ) → (reported_of_name w n ≡ reported_of_name s.workspace n → ⊥) → is_among n (names_of others) ≡ true) →
+    ArePublishedInPart s (with_found s w others s.edited) old old
+part_none s w others old none are = record {
   names = [];
   named = [];
   around = around_same s.sites;
   faults = λ n. [];
-  between = none_found s.settings (map string_bytes s.folders.items) s.workspace (λ n. []) (λ n. refl);
+  between = none_found s.settings (map string_bytes s.folders.items) w (λ n. []) (λ n. refl);
   sent = sym (with_none old);
-  others = λ kept n differs. absurd (differs refl);
-  due = λ n h. inr (subst (λ ns. is_among n ns ≡ true)
-      (append-nil (due_of s) ∙ sym (ap (λ xs. (map string_bytes xs ++ names_of unpublished) ++ renewed_of s.sites) one ∙ ap (λ xs. (edited_of s ++ map string_bytes xs) ++ renewed_of s.sites) other)) h);
+  others = are;
+  due = λ n h. inr (still_due s others n none (without_more s n h));
   only = λ n h. absurd (cc);
 }
 
 -- some of those that were due were published
-pub part_due : (s : Server) (w : Workspace) (sites : Sites) (others due : NameList) (named : List (List ℕ)) (faults : Faults) (old now : Outgoing) →
-    AreBetweenIn s w (names_of due ++ names_of others) faults → names_of due ≡ due_of s ++ named → AreAround named s.sites sites →
+pub part_due : (s : Server) (w : Workspace) (others : NameList) (faults : Faults) (old now : Outgoing) → unpublished_of s ≡ [] →
+    AreBetweenIn s w (edited_of s ++ names_of others) faults →
     (IsKept s.workspace → AreOthers (names_of others) (reported_of_name s.workspace) (reported_of_name w)) →
-    SendsFirst (λ ns. messages_in (publisher_by s sites faults) w (names_once (names_of others) ns)) (names_of due) old now →
-    ArePublishedInPart s (with_found s w sites others due) old now
-part_due s w sites others due named faults old now between is around are (first, rest, whole, sent) = record {
+    SendsFirst (λ ns. messages_in (publisher_of s faults) w (names_once (names_of others) ns)) (edited_of s) old now →
+    ArePublishedInPart s (with_found s w others s.edited) old now
+part_due s w others faults old now none between are (first, rest, whole, sent) = record {
   names = names_once (names_of others) first;
-  named = named;
-  around = around;
+  named = [];
+  around = around_same s.sites;
   faults = faults;
-  between = of_fewer s.settings (map string_bytes s.folders.items) w (names_of due ++ names_of others) (names_once (names_of others) first) faults
-      (λ n h. among_left n (names_of due) (names_of others) (subst (λ ns. is_among n ns ≡ true) (sym whole) (among_left n first rest (among_once n (names_of others) first h)))) between;
+  between = of_fewer s.settings (map string_bytes s.folders.items) w (edited_of s ++ names_of others) (names_once (names_of others) first) faults
+      (λ n h. among_left n (edited_of s) (names_of others) (subst (λ ns. is_among n ns ≡ true) (sym whole) (among_left n first rest (among_once n (names_of others) first h)))) between;
   sent = sent;
   others = λ kept n differs. is_other (reported_of_name s.workspace) (reported_of_name w) (names_of others) n ((are kept).same n) differs;
-  due = λ n h. inr (among_left n (names_of due ++ names_of others) (renewed_of sites) (among_left n (names_of due) (names_of others) (subst (λ ns. is_among n ns ≡ true) (sym is) h)));
-  only = λ n h. inl (subst (λ ns. is_among n ns ≡ true) (sym whole ∙ is) (among_left n first rest (among_once n (names_of others) first h)));
+  due = λ n h. inr (still_due s others n none (without_more s n h));
+  only = λ n h. inl (edited_due s n (subst (λ ns. is_among n ns ≡ true) (sym whole) (among_left n first rest (among_once n (names_of others) first h))));
 }
 
 -- in two parts
@@ -347,65 +327,80 @@ joined p w old next now due others more sent =
     ∙ ap (with_all old) (sym (messages_join p w due others))
 
 -- .. all of them, and some of those of which something else is reported
-pub part_others : (s : Server) (w : Workspace) (sites : Sites) (others edited : NameList) (named : List (List ℕ)) (faults : Faults) (old next now : Outgoing) →
-    AreBetweenIn s w ((due_of s ++ named) ++ names_of others) faults → AreAround named s.sites sites →
+pub part_others : (s : Server) (w : Workspace) (others edited : NameList) (faults : Faults) (old next now : Outgoing) → unpublished_of s ≡ [] →
+    AreBetweenIn s w (edited_of s ++ names_of others) faults →
     (IsKept s.workspace → AreOthers (names_of others) (reported_of_name s.workspace) (reported_of_name w)) →
-    next ≡ with_all old (messages_in (publisher_by s sites faults) w (names_once (names_of others) (due_of s ++ named))) →
-    SendsFirst (λ ns. messages_in (publisher_by s sites faults) w (names_once [] ns)) (names_of others) next now →
-    ArePublishedInPart s (with_found s w sites others edited) old now
-part_others s w sites others edited named faults old next now between around are more (first, rest, whole, sent) =
-    let all = names_once (names_of others) (due_of s ++ named) in
+    next ≡ with_all old (messages_in (publisher_of s faults) w (names_once (names_of others) (edited_of s))) →
+    SendsFirst (λ ns. messages_in (publisher_of s faults) w (names_once [] ns)) (names_of others) next now →
+    ArePublishedInPart s (with_found s w others edited) old now
+part_others s w others edited faults old next now none between are more (first, rest, whole, sent) =
+    let all = names_once (names_of others) (edited_of s) in
     let some = names_once [] first in
     record {
       names = all ++ some;
-      named = named;
-      around = around;
+      named = [];
+      around = around_same s.sites;
       faults = faults;
-      between = of_fewer s.settings (map string_bytes s.folders.items) w ((due_of s ++ named) ++ names_of others) (all ++ some) faults
+      between = of_fewer s.settings (map string_bytes s.folders.items) w (edited_of s ++ names_of others) (all ++ some) faults
           (λ n h. elim (among_either n all some h) [
-            | inl e ↦ among_left n (due_of s ++ named) (names_of others) (among_once n (names_of others) (due_of s ++ named) e)
-            | inr e ↦ among_right n (due_of s ++ named) (names_of others) (subst (λ ns. is_among n ns ≡ true) (sym whole) (among_left n first rest (among_once n [] first e)))
+            | inl e ↦ among_left n (edited_of s) (names_of others) (among_once n (names_of others) (edited_of s) e)
+            | inr e ↦ among_right n (edited_of s) (names_of others) (subst (λ ns. is_among n ns ≡ true) (sym whole) (among_left n first rest (among_once n [] first e)))
           ]) between;
-      sent = joined (publisher_by s sites faults) w old next now all some more sent;
+      sent = joined (publisher_of s faults) w old next now all some more sent;
       others = λ kept n differs. is_other (reported_of_name s.workspace) (reported_of_name w) (names_of others) n ((are kept).same n) differs;
-      due = λ n h. elim (once_or_among n (names_of others) (due_of s ++ named) h) [
-        | inl e ↦ inl (among_left n all some e)
-        | inr e ↦ inr (among_left n (names_of edited ++ names_of others) (renewed_of sites) (among_right n (names_of edited) (names_of others) e))
+      due = λ n h. elim (among_either n (edited_of s) (renewed_of s.sites) (subst (λ ns. is_among n ns ≡ true) (due_anyhow s none) (without_more s n h))) [
+        | inl e ↦ elim (once_or_among n (names_of others) (edited_of s) e) [
+          | inl q ↦ inl (among_left n all some q)
+          | inr q ↦ inr (among_left n (names_of edited ++ names_of others) (renewed_of s.sites) (among_right n (names_of edited) (names_of others) q))
+        ]
+        | inr e ↦ inr (among_right n (names_of edited ++ names_of others) (renewed_of s.sites) e)
       ];
       only = λ n h. elim (among_either n all some h) [
-        | inl e ↦ inl (among_once n (names_of others) (due_of s ++ named) e)
+        | inl e ↦ inl (edited_due s n (among_once n (names_of others) (edited_of s) e))
         | inr e ↦ inr (subst (λ ns. is_among n ns ≡ true) (sym whole) (among_left n first rest (among_once n [] first e)))
       ];
     }
 
+-- nothing else changes
+pub reports_found : (s : Server) (w : Workspace) (unpublished edited : NameList) → w.documents ≡ s.workspace.documents → w.encoding ≡ s.workspace.encoding → (IsKept s.workspace → IsKept w)
+    → OnlyReports s (with_found s w unpublished edited)
+reports_found s w unpublished edited documents encoding kept = record {
+  same = refl;
+  documents = λ n. ap (λ ds. document_of ds n) documents;
+  encoding = encoding;
+  kept = kept;
+  given = λ g. g;
+}
+
+-- what fits the documents fits them as they were checked again
+fits_on : (x : KeptSiteVal) (v w : Workspace) → w.documents ≡ v.documents → templates_of w.judged.items ≡ templates_of v.judged.items → FitsWorkspace x v → FitsWorkspace x w
+fits_on x v w documents templates fits =
+    subst (λ ts. FitsTemplates x w.documents ts) (sym templates) (subst (λ ds. FitsTemplates x ds (templates_of v.judged.items)) (sym documents) fits)
+
 -- all
-pub published_whole : (s : Server) (w : Workspace) (sites : Sites) (others unpublished edited : NameList) (named : List (List ℕ)) (faults : Faults) (old next now : Outgoing) →
-    AreBetweenIn s w ((due_of s ++ named) ++ names_of others) faults → (IsKept s.workspace → IsSettled w) → (IsKept s.workspace → AreRead w) → (IsKept s.workspace → AreOthers (names_of others) (reported_of_name s.workspace) (reported_of_name w)) →
-    AreAround named s.sites sites → (IsKept s.workspace → AreFitting w sites) → AreSaid sites → (AreGiven s.sites → HaveOthers sites) →
-    next ≡ with_all old (messages_in (publisher_by s sites faults) w (names_once (names_of others) (due_of s ++ named))) →
-    now ≡ with_all next (messages_in (publisher_by s sites faults) w (names_once [] (names_of others))) → names_of unpublished ≡ [] → names_of edited ≡ [] → renewed_of sites ≡ [] →
-    ArePublished s (with_found s w sites unpublished edited) old now
-published_whole s w sites others unpublished edited named faults old next now between settled read are around fits said given more sent no_unreported no_edited no_renewed = record {
+pub published_whole : (s : Server) (w : Workspace) (others unpublished edited : NameList) (faults : Faults) (old next now : Outgoing) →
+    AreBetweenIn s w (edited_of s ++ names_of others) faults → (IsKept s.workspace → AreRead s.workspace → IsSettled w) → (IsKept s.workspace → AreRead s.workspace → AreRead w) →
+    (IsKept s.workspace → AreOthers (names_of others) (reported_of_name s.workspace) (reported_of_name w)) →
+    w.documents ≡ s.workspace.documents → templates_of w.judged.items ≡ templates_of s.workspace.judged.items →
+    next ≡ with_all old (messages_in (publisher_of s faults) w (names_once (names_of others) (edited_of s))) →
+    now ≡ with_all next (messages_in (publisher_of s faults) w (names_once [] (names_of others))) → names_of unpublished ≡ [] → names_of edited ≡ [] →
+    ArePublishedAsRead s (with_found s w unpublished edited) old now
+published_whole s w others unpublished edited faults old next now between settled read are documents templates more sent no_unreported no_edited = record {
   settled = settled;
   read = read;
+  fits = λ h k d within. fits_on (slice_index_or s.sites.all.items k d).site s.workspace w documents templates (h k d within);
   others = names_of others;
   are = are;
-  named = named;
-  around = around;
-  fits = fits;
-  said = said;
-  given = given;
   faults = faults;
-  between = of_fewer s.settings (map string_bytes s.folders.items) w ((due_of s ++ named) ++ names_of others)
-      (names_once (names_of others) (due_of s ++ named) ++ names_once [] (names_of others)) faults
-      (λ n h. elim (among_either n (names_once (names_of others) (due_of s ++ named)) (names_once [] (names_of others)) h) [
-        | inl e ↦ among_left n (due_of s ++ named) (names_of others) (among_once n (names_of others) (due_of s ++ named) e)
-        | inr e ↦ among_right n (due_of s ++ named) (names_of others) (among_once n [] (names_of others) e)
+  between = of_fewer s.settings (map string_bytes s.folders.items) w (edited_of s ++ names_of others)
+      (names_once (names_of others) (edited_of s) ++ names_once [] (names_of others)) faults
+      (λ n h. elim (among_either n (names_once (names_of others) (edited_of s)) (names_once [] (names_of others)) h) [
+        | inl e ↦ among_left n (edited_of s) (names_of others) (among_once n (names_of others) (edited_of s) e)
+        | inr e ↦ among_right n (edited_of s) (names_of others) (among_once n [] (names_of others) e)
       ]) between;
-  sent = joined (publisher_by s sites faults) w old next now (names_once (names_of others) (due_of s ++ named)) (names_once [] (names_of others)) more sent;
+  sent = joined (publisher_of s faults) w old next now (names_once (names_of others) (edited_of s)) (names_once [] (names_of others)) more sent;
   unpublished = no_unreported;
   edited = no_edited;
-  renewed = no_renewed;
 }
 
 -- what holds anyhow holds of an error

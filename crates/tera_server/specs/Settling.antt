@@ -61,6 +61,21 @@ pub record ArePublishedInPart (s t : Server) (old now : Outgoing) : Type 0 where
   pub due : (n : List ℕ) → is_among n (due_of s ++ named) ≡ true → (is_among n names ≡ true) ⊎ (is_among n (due_of t) ≡ true)
   pub only : (n : List ℕ) → is_among n names ≡ true → (is_among n (due_of s ++ named) ≡ true) ⊎ (is_among n (unpublished_of t) ≡ true)
 
+-- What is reported now of the documents as they were read is published, with the findings on names by the sites as they
+-- are and those between other markers: for the documents that are to be published anyhow, and for those with other
+-- findings than before, once for each.
+pub record ArePublishedAsRead (s t : Server) (old now : Outgoing) : Type 0 where
+  pub settled : IsKept s.workspace → AreRead s.workspace → IsSettled t.workspace
+  pub read : IsKept s.workspace → AreRead s.workspace → AreRead t.workspace
+  pub fits : AreFitting s.workspace s.sites → AreFitting t.workspace s.sites
+  pub others : List (List ℕ)
+  pub are : IsKept s.workspace → AreOthers others (reported_of_name s.workspace) (reported_of_name t.workspace)
+  pub faults : Faults
+  pub between : AreBetween t (names_once others (edited_of s) ++ names_once [] others) faults
+  pub sent : now ≡ with_all old (messages_of t faults (names_once others (edited_of s) ++ names_once [] others))
+  pub unpublished : unpublished_of t ≡ []
+  pub edited : edited_of t ≡ []
+
 -- only what is reported, what is around templates, and what is to be published changes
 pub record OnlyReports (s t : Server) : Type 0 where
   pub same : t ≡ record s { workspace = t.workspace; sites = t.sites; unpublished = t.unpublished; edited = t.edited }

@@ -1,7 +1,7 @@
 //! The names of templates, by the sites of the folders that are open.
 
 ghost use Rattle.std.specs.Prelude.{◌≡◌, [], map, IfOk, OnOk};
-ghost use Rattle.tera_server.specs.Naming.{AreNamesRead, IsPresenceSaid, OnlyNames};
+ghost use Rattle.tera_server.specs.Naming.{AddsNamed, AreNamesRead, IsPresenceSaid, OnlyNames};
 ghost use Rattle.tera_editor.specs.Sites.{AreAround, AreDueAgain, KeepsKnown, due_of_sites, used_view};
 
 use crate::server::Server;
@@ -13,9 +13,12 @@ impl Server {
     /// the names for which the caller has to look for a file. After an allocation failure a part of that may be done.
     pub fn read_names(&mut self, alloc: Global) -> Result<(), AllocError>
         ensures only { OnlyNames self.old self.new }
+        ensures due { AddsNamed self.old self.new }
         ensures known { KeepsKnown self.old.sites self.new.sites }
         ensures read { OnOk result (AreNamesRead self.old self.new) }
     {
+        // What was not published yet is published with what is reported then.
+        self.edited.append(&mut self.unpublished)?;
         self.workspace.read(alloc)?;
         self.sites.renew(alloc, &self.workspace, &mut self.edited)
     }

@@ -1,6 +1,6 @@
 //! The server.
 
-ghost use Rattle.std.specs.Prelude.{◌≡◌, ◌⊎◌, ◌++◌, ◌∷◌, [], ℕ, List, IsTrue, None, false, IfOk, OnOk, OnErr, filter, map, string_bytes};
+ghost use Rattle.std.specs.Prelude.{◌≡◌, ◌≢◌, ◌⊎◌, ◌++◌, ◌∷◌, [], ℕ, List, IsTrue, None, false, IfOk, OnOk, OnErr, filter, map, string_bytes};
 ghost use Rattle.std.specs.Option.{option_map, option_to_list};
 ghost use Rattle.json_rpc.specs.Ids.{NullId};
 ghost use Rattle.json_rpc.specs.Messages.{message_of};
@@ -12,15 +12,16 @@ ghost use Rattle.json_rpc.specs.declared.code.Code.TheVariants.{InternalError, P
 ghost use Rattle.tera_workspace.specs.Workspaces.{reported_of_name, IsKept};
 ghost use Rattle.text_edits.specs.Documents.{no_document};
 ghost use Rattle.tera_server.specs.Sending.{unpublished_of};
-ghost use Rattle.tera_server.specs.Settling.{IsSettling, ArePublishedInPart, OnlyReports};
+ghost use Rattle.tera_server.specs.Naming.{AreNamesDue};
+ghost use Rattle.tera_server.specs.Settling.{IsSettling, ArePublishedAsRead, ArePublishedInPart, OnlyReports};
 ghost use Rattle.tera_server.specs.States.{IsMissed, IsLoadedAs, IsNotLoaded, known_of, text_on, why_on, is_there, needed_of, needed_view, edited_of, edited_by, edited_more, edited_with, finds_more_for, with_name, KeepsReported, StaysBut};
 ghost use Rattle.tera_server.specs.Steps.{ended_at, Step, IsRefused, IsUntaken, IsUntakenBy, KeepsUp};
 ghost use Rattle.tera_editor.specs.KnownFiles.{is_known, known_names, IsKnownAs};
 ghost use Rattle.tera_editor.specs.Templates.{is_inside};
 ghost use Rattle.tera_editor.specs.Settings.{settings_in};
-ghost use Rattle.tera_editor.specs.Sites.{AreGiven, KeepsKnown, renewed_of, site_in};
+ghost use Rattle.tera_editor.specs.Sites.{AreGiven, KeepsKnown, due_of_sites, renewed_of, site_in, used_view};
 ghost use Rattle.tera_editor.specs.UnreadFiles.{reason_view, why_of, IsWhyAt};
-ghost use Rattle.tera_server.specs.declared.server.Phase.TheVariants.{New};
+ghost use Rattle.tera_server.specs.declared.server.Phase.TheVariants.{New, Running};
 
 use crate::between::faults_between;
 use crate::findings::{Publishing, publish_each};
@@ -33,7 +34,7 @@ use tera_editor::client::Client;
 use tera_editor::editor::Editor;
 use tera_editor::known::KnownFiles;
 use tera_editor::settings::Settings;
-use tera_editor::sites::Sites;
+use tera_editor::sites::{Sites, UsedName};
 use tera_editor::unread::{Reason, UnreadFiles};
 use tera_workspace::{Markers, Workspace};
 
@@ -441,10 +442,50 @@ impl Server {
         if self.phase != Phase::Running {
             return Ok(());
         }
-        // What was not published yet is published with what is reported now.
-        self.edited.append(&mut self.unpublished)?;
-        self.unpublished = self.workspace.settle(alloc)?;
-        self.sites.renew(alloc, &self.workspace, &mut self.edited)?;
+        self.read_names(alloc)?;
+        self.publish(alloc, out)
+    }
+
+    /// Does the same, unless there are names for which the caller has to look for a file. Then the result has these names,
+    /// as in `due_names`, the documents are read as by `read_names`, and nothing is published. If the result is empty,
+    /// what `settle` does is done.
+    pub fn settle_unless_due(
+        &mut self,
+        alloc: Global,
+        out: &mut Outbox,
+    ) -> Result<Vec<UsedName>, AllocError>
+        ensures settled { IfOk result (λ due. due.items ≡ [] →
+            IsSettling self.old.phase self.old self.new out.old out.new) }
+        ensures due { IfOk result (λ due. due.items ≢ [] →
+            AreNamesDue (map used_view due.items) self.old self.new out.old out.new) }
+        ensures none { IfOk result (λ due. due.items ≡ [] → self.old.phase ≡ Running →
+            due_of_sites self.new.sites ≡ []) }
+        ensures unsettled { OnErr result (ArePublishedInPart self.old self.new out.old out.new) }
+        ensures stays { OnlyReports self.old self.new }
+        ensures known { KeepsKnown self.old.sites self.new.sites }
+    {
+        if self.phase != Phase::Running {
+            return Ok(Vec::new(alloc));
+        }
+        self.read_names(alloc)?;
+        let due = self.due_names(alloc)?;
+        if !due.is_empty() {
+            return Ok(due);
+        }
+        self.publish(alloc, out)?;
+        Ok(due)
+    }
+
+    // Publishes the rest of what `settle` does, by the texts that were read last. What was not published in time is among
+    // what was edited.
+    fn publish(&mut self, alloc: Global, out: &mut Outbox) -> Result<(), AllocError>
+        requires { unpublished_of self.old ≡ [] }
+        ensures published { OnOk result (ArePublishedAsRead self.old self.new out.old out.new) }
+        ensures in_part { OnErr result (ArePublishedInPart self.old self.new out.old out.new) }
+        ensures stays { OnlyReports self.old self.new }
+        ensures sites { self.new.sites ≡ self.old.sites }
+    {
+        self.unpublished = self.workspace.settle_read(alloc)?;
         let folders = self.folders.as_slice();
         let edited = self.edited.as_slice();
         // The documents in `unpublished` are published after the others.
