@@ -2,6 +2,7 @@
 use Rattle.std.proofs.Common.{◌≡◌, ◌∙◌, ◌≤◌, ◌+◌, ◌++◌, ◌∷◌, [], ℕ, List, length, take, drop, Option, None, Some, Result, Ok, Err, OnOk, OnErr, slice_get, refl, sym, ap, subst, append_assoc}
 use Rattle.std.specs.Io.KnownBytes.{Appends}
 use Rattle.std.specs.List.{flat_map}
+use Rattle.std.specs.Result.{result_and}
 use Rattle.std.proofs.lemmas.List.{append-nil, take_more, take_all, drop_more, take-append-drop}
 use Rattle.std.proofs.lemmas.List.Concat.{flat_map-append}
 use Rattle.std.proofs.lemmas.Option.{slice_get_within, get_or_from_slice_get}
@@ -52,7 +53,8 @@ pub on_any_err : {T E P : Type 0} (r : Result T E) → P → OnErr r P
 on_any_err (Ok v) h = tt
 on_any_err (Err e) h = h
 
--- what holds anyhow holds of a result
-pub on_any_ok : {T E P : Type 0} (r : Result T E) → P → OnOk r P
-on_any_ok (Ok v) h = h
-on_any_ok (Err e) h = tt
+-- both of two results are `Ok`
+pub both_ok : {T U E P Q : Type 0} (r : Result T E) (s : Result U E) (v : U) → result_and r s ≡ Ok v → OnOk r P → OnOk s Q → P × Q
+both_ok (Ok x) (Ok y) v is p q = (p, q)
+both_ok (Ok x) (Err e) v is p q = cc
+both_ok (Err e) s v is p q = cc

@@ -1,5 +1,5 @@
 -- What a server was reported, and what was written of it, one step more.
-use Rattle.std.proofs.Common.{◌≡◌, ◌∙◌, ◌<◌, ◌≤◌, ◌+◌, Bool, true, false, ◌++◌, ◌∷◌, [], inl, inr, ℕ, List, String, string_bytes, length, get_or, take, drop, Result, Ok, Err, IfOk, OnOk, OnErr, map, Option, None, Some, refl, sym, ap, subst, append_assoc}
+use Rattle.std.proofs.Common.{◌≡◌, ◌⊎◌, ◌∙◌, ◌<◌, ◌≤◌, ◌+◌, Bool, true, false, ◌++◌, ◌∷◌, [], inl, inr, ℕ, List, String, string_bytes, length, get_or, take, drop, Result, Ok, Err, IfOk, OnOk, OnErr, map, Option, None, Some, refl, sym, ap, subst, append_assoc}
 use Rattle.std.specs.Io.KnownBytes.{Appends, Consumes, IsAtEnd}
 use Rattle.std.specs.List.{flat_map}
 use Rattle.std.specs.Option.{option_map, option_to_list}
@@ -18,17 +18,18 @@ use Rattle.message_frames.proofs.Splitting.{begins_on, begins_grow, nothing_part
 use Rattle.message_frames.proofs.Taking.{never_waits, no_wait}
 use Rattle.tera_server.specs.Configuring.{IsUnconfigured}
 use Rattle.tera_server.specs.Sending.{unpublished_of}
-use Rattle.tera_server.specs.Settling.{due_of, IsSettling}
+use Rattle.tera_server.specs.Settling.{due_of, ArePublishedInPart, IsSettling}
 use Rattle.tera_server.specs.declared.server.Ended.{Ended}
 use Rattle.tera_server.specs.declared.server.Phase.{Phase}
 use Rattle.tera_server.specs.declared.server.Phase.TheVariants.{New, Running, ShutDown}
 use Rattle.tera_server.specs.Steps.{ended_at}
 use Rattle.tera_server.specs.States.{text_on, why_on, is_there, IsLoadedAs, IsNotLoaded, edited_of, needed_of, needed_view, KeepsReported}
 use Rattle.tera_editor.specs.KnownFiles.{IsKnownAs}
+use Rattle.tera_editor.specs.Sites.{NoneDue}
 use Rattle.tera_server.specs.declared.server.OnDisk.{OnDisk}
 use Rattle.tera_server.specs.declared.server.Server.{Server}
 use Rattle.tera_server.specs.declared.server.Needed.{Needed}
-use Rattle.tera_exchange.specs.Serving.{Takes, SettlesSo, Settles, IsNew, IsAsked, IsLoaded, IsUnloaded, AreLoaded, AreLoadedInPart, LoadedNone, LoadedNext, Gives, Talks, Silent, Took, Settled, Given, Rounds, NoRound, NextRound, or_short, IsAtRest, IsOver, IsServed, IsTalking, ended_of, IsLeft, IsWaiting, Rests}
+use Rattle.tera_exchange.specs.Serving.{Takes, Settles, IsNew, IsAsked, IsLoaded, IsUnloaded, AreLoaded, AreLoadedInPart, LoadedNone, LoadedNext, Gives, GaveNames, AreNamesSaid, Publishes, PublishesAll, Talks, Silent, Took, Settled, Given, Rounds, NoRound, NextRound, or_short, IsAtRest, IsOver, IsServed, IsTalking, ended_of, IsLeft, IsWaiting, Rests}
 use Rattle.tera_exchange.specs.declared.server.Left.{Left}
 use Rattle.tera_exchange.specs.declared.server.Left.TheVariants as lefts
 use Rattle.tera_show.proofs.Known.{appends_more}
@@ -243,11 +244,24 @@ waits_where_ok (Ok left) limit s t u first held now old mid new before is rests 
     λ start bytes began k. talk_rests limit left start t u bytes held now began mid new (before start bytes began k) is rests
 waits_where_ok (Err e) limit s t u first held now old mid new before is rests = tt
 
+-- findings are published, after what is said of names: all of them
+pub published_all : (s mid t : Server) (out sent : Outgoing) → AreNamesSaid s mid → (s.phase ≡ Running → NoneDue mid.sites ⊎ NoneDue t.sites) → out ≡ nothing →
+    IsSettling mid.phase mid t out sent → PublishesAll s t sent
+published_all s mid t out sent said none is settled =
+    record { mid = mid; said = said; all_said = none; settled = subst (λ o. IsSettling mid.phase mid t o sent) is settled }
+
+-- .. whether or not all was said
+pub published : (s mid t : Server) (out sent : Outgoing) → AreNamesSaid s mid → out ≡ nothing → IsSettling mid.phase mid t out sent → Publishes s t sent
+published s mid t out sent said is settled = record { mid = mid; said = said; settled = (true, subst (λ o. IsSettling mid.phase mid t o sent) is settled) }
+
+-- .. or a part of them
+pub published_in_part : (s mid t : Server) (out sent : Outgoing) → AreNamesSaid s mid → out ≡ nothing → ArePublishedInPart mid t out sent → Publishes s t sent
+published_in_part s mid t out sent said is part = record { mid = mid; said = said; settled = (false, subst (λ o. ArePublishedInPart mid t o sent) is part) }
+
 -- a part failed to allocate
-pub rests_short : (all : Bool) (s mid t : Server) (sent : Outgoing) (old new : Option (List ℕ)) → Gives s mid → SettlesSo all mid t sent → Appends old new (flat_map frame sent.sent) →
-    Rests lefts.Short s t old new
-rests_short all s mid t sent old new given settled written =
-    record { mid = mid; sent = sent; given = given; settled = (all, settled); written = written; goes_on = refl; done = tt }
+pub rests_short : (s mid t : Server) (sent : Outgoing) (old new : Option (List ℕ)) → Gives s mid → Publishes mid t sent → Appends old new (flat_map frame sent.sent) → Rests lefts.Short s t old new
+rests_short s mid t sent old new given p written =
+    record { mid = p.mid; sent = sent; given = GaveNames mid p.mid given p.said; settled = p.settled; written = written; goes_on = refl; done = tt }
 
 nothing_due : (phase : Phase) (s t : Server) (sent : Outgoing) → s.phase ≡ phase → IsSettling phase s t nothing sent → t.phase ≡ Running → due_of t ≡ []
 nothing_due New s t sent is (same, none) running = cc (sym is ∙ (sym (ap (λ (u : Server). u.phase) same) ∙ running))
@@ -255,19 +269,17 @@ nothing_due Running s t sent is p running = rw (p.edited, p.unpublished, p.renew
 nothing_due ShutDown s t sent is (same, none) running = cc (sym is ∙ (sym (ap (λ (u : Server). u.phase) same) ∙ running))
 
 -- nothing did
-pub rests_all : (all : Bool) (s mid t : Server) (sent : Outgoing) (old new : Option (List ℕ)) → all ≡ true → Gives s mid → needed_of mid ≡ [] → SettlesSo all mid t sent → t.needed ≡ mid.needed →
+pub rests_all : (s mid t : Server) (sent : Outgoing) (old new : Option (List ℕ)) → Gives s mid → needed_of mid ≡ [] → PublishesAll mid t sent → t.needed ≡ mid.needed →
     Appends old new (flat_map frame sent.sent) → Rests lefts.AtRest s t old new
-rests_all all s mid t sent old new is given none settled same written =
-    let whole : SettlesSo true mid t sent = subst (λ b. SettlesSo b mid t sent) is settled in
-    record {
-      mid = mid;
-      sent = sent;
-      given = given;
-      settled = (true, whole);
-      written = written;
-      goes_on = refl;
-      done = record { given = ap (λ v. map needed_view v.items) same ∙ none; published = nothing_due mid.phase mid t sent refl whole };
-    }
+rests_all s mid t sent old new given none p same written = record {
+  mid = p.mid;
+  sent = sent;
+  given = GaveNames mid p.mid given p.said;
+  settled = (true, p.settled);
+  written = written;
+  goes_on = refl;
+  done = record { given = ap (λ v. map needed_view v.items) same ∙ none; published = nothing_due p.mid.phase p.mid t sent refl p.settled };
+}
 
 -- ---- piece by piece
 

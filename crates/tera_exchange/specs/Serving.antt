@@ -22,7 +22,7 @@ use Rattle.tera_server.specs.Naming.{IsPresenceSaid, OnlyNames}
 use Rattle.tera_editor.specs.Settings.{SettingsVal, settings_for}
 use Rattle.tera_server.specs.Settling.{due_of, IsSettling, ArePublishedInPart}
 use Rattle.tera_server.specs.Sending.{unpublished_of}
-use Rattle.tera_editor.specs.Sites.{AreAround, AreDueAgain, AreGiven as AreOthersGiven, UsedVal, renewed_of, site_in}
+use Rattle.tera_editor.specs.Sites.{AreAround, AreDueAgain, AreGiven as AreOthersGiven, NoneDue, UsedVal, renewed_of, site_in}
 use Rattle.tera_server.specs.States.{known_of, text_on, why_on, IsLoadedAs, IsNotLoaded, NeededVal, NeedsFile, NeedsFolder, NeedsChanged, is_there, needed_of, edited_of, Grows, KeepsReported}
 use Rattle.tera_server.specs.Steps.{ended_at, Step, IsRefused, IsUntaken}
 use Rattle.tera_server.specs.declared.configuring.FoundSettings.{FoundSettings}
@@ -240,6 +240,20 @@ pub data Gives (s : Server) : Server → Type 0 where
       Gives s t → IsAsked (Some needed) t u → IsGivenInPart needed u v → Gives s v
   GaveAll : (t u : Server) → Gives s t → IsAsked None t u → Gives s u
   GaveNames : (t u : Server) → Gives s t → AreNamesSaid t u → Gives s u
+
+-- it is said of names whether there are files, and then findings are published: all of them or, if an allocation fails,
+-- a part
+pub record Publishes (s t : Server) (sent : Outgoing) : Type 0 where
+  pub mid : Server
+  pub said : AreNamesSaid s mid
+  pub settled : Settles mid t sent
+
+-- .. all of them; and in an exchange that has begun it was said of all names, or none was to be asked after all was read
+pub record PublishesAll (s t : Server) (sent : Outgoing) : Type 0 where
+  pub mid : Server
+  pub said : AreNamesSaid s mid
+  pub all_said : s.phase ≡ Running → NoneDue mid.sites ⊎ NoneDue t.sites
+  pub settled : SettlesSo true mid t sent
 
 -- from a server on: what came, what was sent, in order, how the exchange ended, if it did, and the server then. After a
 -- message that ends the exchange nothing comes

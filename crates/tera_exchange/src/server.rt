@@ -9,9 +9,9 @@ ghost use Rattle.message_frames.specs.Shown.{Message, shown};
 ghost use Rattle.message_frames.specs.Representing.{Represents};
 ghost use Rattle.message_frames.specs.Writing.{frame as frame_text};
 ghost use Rattle.tera_files.specs.Names.{texts};
-ghost use Rattle.tera_exchange.specs.Serving.{Takes, SettlesSo, Rests, IsLoaded, IsUnloaded, AreKnownGiven, AreKnownGivenInPart, AreLoaded, AreLoadedInPart, AreLibrariesGiven, AreLibrariesGivenInPart, AreListed, AreListedGiven, AreSomeGiven, AreSomeGivenInPart, AreListedGivenInPart, IsFolderGiven, IsFolderGivenInPart, IsOpenGiven, IsOpenGivenInPart, extensions, extensions_in, libraries_in, AreGiven, AreGivenInPart, AreGivenAnew, AreGivenAnewInPart, AreNamesSaid, IsNameSaid, IsGivenInPart, Gives, IsNew, IsTalking, IsWaiting, IsServed};
+ghost use Rattle.tera_exchange.specs.Serving.{Takes, Publishes, PublishesAll, Rests, IsLoaded, IsUnloaded, AreKnownGiven, AreKnownGivenInPart, AreLoaded, AreLoadedInPart, AreLibrariesGiven, AreLibrariesGivenInPart, AreListed, AreListedGiven, AreSomeGiven, AreSomeGivenInPart, AreListedGivenInPart, IsFolderGiven, IsFolderGivenInPart, IsOpenGiven, IsOpenGivenInPart, extensions, extensions_in, libraries_in, AreGiven, AreGivenInPart, AreGivenAnew, AreGivenAnewInPart, AreNamesSaid, IsNameSaid, IsGivenInPart, Gives, IsNew, IsTalking, IsWaiting, IsServed};
 ghost use Rattle.tera_server.specs.Naming.{OnlyNames};
-ghost use Rattle.tera_editor.specs.Sites.{NoneDue, used_view};
+ghost use Rattle.tera_editor.specs.Sites.{NoneDue, due_of_sites, used_view};
 ghost use Rattle.tera_server.specs.States.{NeedsChanged, needed_view, needed_of};
 ghost use Rattle.tera_editor.specs.KnownFiles.{is_known};
 ghost use Rattle.tera_server.specs.declared.server.Server.{Server};
@@ -284,42 +284,47 @@ fn come_to_rest<F: Files + Input + AllocGlobal + Clone + Drop, W: Write>(
         (W.contents writer.old) (W.contents writer.new)) }
     ensures sent { OnOk result (out.new ≡ nothing) }
 {
-    let given = give_all(files, server);
-    let settled = settle(files.alloc(), server, writer, out)?;
-    if !settled {
-        return Ok(Left::Short);
-    }
-    match given {
+    let given = give(files, server);
+    let published = publish(files, server, out);
+    send(files.alloc(), writer, out)?;
+    match given.and(published) {
         Ok(()) => Ok(Left::AtRest),
         Err(AllocError) => Ok(Left::Short),
     }
 }
 
-// Gives what is still asked for, and then sets for each due name whether there may be a file of it.
-fn give_all<F: Files + Input + AllocGlobal + Clone + Drop>(
+// Publishes findings. If it is not known of some names whether there is a file, that is set first. If an allocation for
+// that fails, findings are published all the same.
+fn publish<F: Files + Input + AllocGlobal>(
     files: &F,
     server: &mut Server,
+    out: &mut Outbox,
 ) -> Result<(), AllocError>
-    ensures given { Gives server.old server.new }
-    ensures all { OnOk result (needed_of server.new ≡ []) }
-    ensures names { OnOk result (NoneDue server.new.sites) }
+    requires { out.old ≡ nothing }
+    ensures published { Publishes server.old server.new out.new }
+    ensures all { OnOk result (PublishesAll server.old server.new out.new) }
+    ensures needed { server.new.needed ≡ server.old.needed }
 {
-    give(files, server)?;
-    say_names(files, server)
+    let due = server.settle_unless_due(files.alloc(), out)?;
+    if due.is_empty() {
+        return Ok(());
+    }
+    let said = say_names(files, server, &due);
+    server.settle(files.alloc(), out)?;
+    said
 }
 
-// Sets for each due name whether there may be a file of it. A name is due if templates use it, none has it, and it is not
-// known whether there is a file.
+// Sets for each of these names whether there may be a file of it.
 fn say_names<F: Files + Input + AllocGlobal>(
     files: &F,
     server: &mut Server,
+    due: &Vec<UsedName>,
 ) -> Result<(), AllocError>
+    requires { map used_view due.now.items ≡ due_of_sites server.old.sites }
     ensures said { AreNamesSaid server.old server.new }
     ensures all { OnOk result (NoneDue server.new.sites) }
 {
-    server.read_names(files.alloc())?;
-    let due = server.due_names(files.alloc())?;
-    for used in &due {
+    for used in due {
         say_name(files, server, used)?;
     }
     Ok(())
@@ -340,35 +345,6 @@ fn say_name<F: Files + Input + AllocGlobal>(
 // The folder of a root, which has no slash at its end.
 fn folder_at(root: &str) -> &str {
     if root.is_empty() { "/" } else { root }
-}
-
-// Publishes findings, and writes them. The result is whether no allocation failed.
-fn settle<W: Write>(
-    alloc: Global,
-    server: &mut Server,
-    writer: &mut W,
-    out: &mut Outbox,
-) -> io::Result<bool>
-    requires { out.old ≡ nothing }
-    ensures settles { IfOk result (λ all. (sent : Outgoing) × SettlesSo all server.old server.new sent
-        × Appends (W.contents writer.old) (W.contents writer.new) (flat_map frame_text sent.sent)) }
-    ensures sent { OnOk result (out.new ≡ nothing) }
-    ensures needed { server.new.needed ≡ server.old.needed }
-{
-    let all = publish(alloc, server, out);
-    send(alloc, writer, out)?;
-    Ok(all)
-}
-
-fn publish(alloc: Global, server: &mut Server, out: &mut Outbox) -> bool
-    requires { out.old ≡ nothing }
-    ensures settles { SettlesSo result server.old server.new out.new }
-    ensures needed { server.new.needed ≡ server.old.needed }
-{
-    match server.settle(alloc, out) {
-        Ok(()) => true,
-        Err(AllocError) => false,
-    }
 }
 
 // Gives the server the texts of files that it asks for.
