@@ -1,41 +1,21 @@
 -- The names of templates, as they are found in the paths of their files.
-use Rattle.std.proofs.Common.{◌≡◌, ◌∙◌, ◌≢◌, ◌<◌, ◌≤◌, ◌+◌, ◌++◌, ◌∷◌, [], ℕ, zero, suc, List, length, drop, Bool, true, false, nat_eq, Option, None, Some, option_map, unwrap_or, codes, if◌then◌else◌, Bor, refl, sym, ap, arith}
+use Rattle.std.proofs.Common.{◌≡◌, ◌∙◌, ◌<◌, ◌≤◌, ◌+◌, ◌++◌, ◌∷◌, [], ℕ, zero, suc, List, length, drop, Option, None, Some, option_map, unwrap_or, codes, Bor, refl, sym, ap, arith}
 use Rattle.std.specs.Option.{MatchOption, option_and_then, option_or}
-use Rattle.std.specs.Str.Pattern.{FindsText, FindsTextPrefix, StripsPrefix, SplitsAroundMatch, LacksTextAt}
-use Rattle.tera_editor.specs.Templates.{following, after_first, name_in, name_below}
+use Rattle.std.specs.Str.Pattern.{FindsText, SplitsAroundMatch, LacksTextAt}
+use Rattle.tera_workspace.specs.Sites.{following}
+use Rattle.tera_workspace.proofs.PathLemmas.{is_after, not_after}
+use Rattle.tera_editor.specs.Templates.{after_first, name_in, name_in_folder}
 
-is_after : (front rest : List ℕ) → following front (front ++ rest) ≡ Some rest
-is_after [] rest = refl
-is_after (f ∷ fs) rest =
-    let same : nat_eq f f ≡ true = grind arith in
-    ap (λ b. if b then following fs (fs ++ rest) else None) same ∙ is_after fs rest
-
-not_after : (front text : List ℕ) → ((rest : List ℕ) → text ≢ front ++ rest) → following front text ≡ None
-not_after [] text h = absurd (h text refl)
-not_after (f ∷ fs) [] h = refl
-not_after (f ∷ fs) (b ∷ bs) h = by (nat_eq f b) refl (λ same. not_after fs bs (λ rest is. h rest (cc)))
-  where
-    by : (t : Bool) → nat_eq f b ≡ t → (f ≡ b → following fs bs ≡ None) → (if t then following fs bs else None) ≡ None
-    by false e g = refl
-    by true e g = g (grind (arith, e))
-
--- as a text is taken off the front of another
-pub stripped : (front text : List ℕ) (r : Option (Bor (List ℕ))) → MatchOption r (FindsTextPrefix front text None) (λ x. StripsPrefix (FindsTextPrefix front) text x.now)
-    → option_map (λ x. x.now) r ≡ following front text
-stripped front text None h = sym (not_after front text h)
-stripped front text (Some x) (k, (same, split, boundary), is, len) =
-    ap Some is ∙ sym (ap (following front) split ∙ is_after front (drop k text))
-
--- .. below a folder
-pub not_below : (folder file : List ℕ) → following folder file ≡ None → None ≡ name_below folder file
+-- below a folder
+pub not_below : (folder file : List ℕ) → following folder file ≡ None → None ≡ name_in_folder folder file
 not_below folder file none = sym (ap (option_and_then name_in) none)
 
-pub not_named : (folder file path : List ℕ) → following folder file ≡ Some path → following (codes "/") path ≡ None → None ≡ name_below folder file
+pub not_named : (folder file path : List ℕ) → following folder file ≡ Some path → following (codes "/") path ≡ None → None ≡ name_in_folder folder file
 not_named folder file path below none =
     sym (ap (option_and_then name_in) below ∙ ap (option_map (unwrap_or (after_first (codes "/templates/") path))) none)
 
 pub named_below : (folder file path name : List ℕ) (inner : Option (List ℕ)) → following folder file ≡ Some path → following (codes "/") path ≡ Some name → inner ≡ after_first (codes "/templates/") path
-    → Some (unwrap_or inner name) ≡ name_below folder file
+    → Some (unwrap_or inner name) ≡ name_in_folder folder file
 named_below folder file path name inner below named is =
     ap (λ o. Some (unwrap_or o name)) is
     ∙ sym (ap (option_and_then name_in) below ∙ ap (option_map (unwrap_or (after_first (codes "/templates/") path))) named)

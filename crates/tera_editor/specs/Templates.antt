@@ -4,13 +4,8 @@ use Rattle.std.specs.List.{All, Contains, ends_with}
 use Rattle.std.specs.Option.{option_and_then, option_map_or, option_or}
 use Rattle.std.specs.Str.{bytes_eq}
 use Rattle.file_uris.specs.Names.{is_rooted}
+use Rattle.tera_workspace.specs.Sites.{following, name_below}
 use Rattle.tera_editor.specs.declared.templates.Roots.{Roots}
-
--- what comes after the front of a text
-abbrev pub following : List ℕ → List ℕ → Option (List ℕ)
-following [] text = Some text
-following (f ∷ fs) [] = None
-following (f ∷ fs) (b ∷ bs) = if nat_eq f b then following fs bs else None
 
 -- what comes after a part, where that is first in a text
 abbrev pub after_first : List ℕ → List ℕ → Option (List ℕ)
@@ -22,8 +17,8 @@ after_first part (b ∷ bs) = option_or (following part (b ∷ bs)) (after_first
 abbrev pub name_in : List ℕ → Option (List ℕ)
 name_in path = option_map (unwrap_or (after_first (codes "/templates/") path)) (following (codes "/") path)
 
-abbrev pub name_below : List ℕ → List ℕ → Option (List ℕ)
-name_below folder file = option_and_then name_in (following folder file)
+abbrev pub name_in_folder : List ℕ → List ℕ → Option (List ℕ)
+name_in_folder folder file = option_and_then name_in (following folder file)
 
 -- whether a file is in a folder, at any depth
 abbrev pub is_inside : List ℕ → List ℕ → Bool
@@ -32,26 +27,23 @@ is_inside folder file = option_map_or is_rooted (following folder file) false
 -- the name by the first of the folders that its file is in
 abbrev pub name_in_first : List (List ℕ) → List ℕ → Option (List ℕ)
 name_in_first [] file = None
-name_in_first (f ∷ fs) file = option_or (name_below f file) (name_in_first fs file)
-
--- .. or by the root of a site: the path below it
-abbrev pub path_below : List ℕ → List ℕ → Option (List ℕ)
-path_below root file = option_and_then (following (codes "/")) (following root file)
+name_in_first (f ∷ fs) file = option_or (name_in_folder f file) (name_in_first fs file)
 
 -- where names of templates begin: below the root of the site of a document, if it has one, or else below open folders
 pub record RootsVal : Type 0 where
-  pub site : Option (List ℕ)
+  pub root : Option (List ℕ)
   pub folders : List (List ℕ)
 
 abbrev pub roots_view : Roots → RootsVal
-roots_view r = record { site = option_map (λ root. root.now) r.site; folders = map string_bytes r.folders.now }
+roots_view r = record { root = option_map (λ n. n.now) r.root; folders = map string_bytes r.folders.now }
 
+-- the name by the root, or else by the folders
 abbrev pub name_by : Option (List ℕ) → List (List ℕ) → List ℕ → Option (List ℕ)
 name_by None folders file = name_in_first folders file
-name_by (Some root) folders file = path_below root file
+name_by (Some root) folders file = name_below root file
 
 abbrev pub template_name : RootsVal → List ℕ → Option (List ℕ)
-template_name roots file = name_by roots.site roots.folders file
+template_name roots file = name_by roots.root roots.folders file
 
 -- whether a file has the name, and whether its path ends in it below some folder
 abbrev pub is_named : RootsVal → List ℕ → List ℕ → Bool

@@ -8,12 +8,13 @@ ghost use Rattle.tera_editor.specs.Templates as specs;
 ghost use Rattle.tera_editor.specs.Templates.{roots_view};
 
 use std::alloc::{AllocError, Global};
+use tera_workspace::name_below;
 
 /// Where the names of templates begin for a document: below the root of its site, if it has one, or else below the open
 /// folders.
 #[derive(Clone, Copy)]
 pub struct Roots<'r> {
-    pub site: Option<&'r str>,
+    pub root: Option<&'r str>,
     pub folders: &'r [String],
 }
 
@@ -21,24 +22,17 @@ pub struct Roots<'r> {
 pub fn template_name<'f>(roots: Roots<'_>, file: &'f str) -> Option<&'f str>
     ensures { option_map (λ n. n.now) result ≡ specs.template_name (roots_view roots.entry) file.now }
 {
-    match roots.site {
-        Some(root) => path_below(root, file),
+    match roots.root {
+        Some(root) => name_below(root, file),
         None => name_in_first(roots.folders, file),
     }
-}
-
-fn path_below<'f>(root: &str, file: &'f str) -> Option<&'f str>
-    ensures { option_map (λ n. n.now) result ≡ specs.path_below root.now file.now }
-{
-    let path = file.strip_prefix(root)?;
-    path.strip_prefix("/")
 }
 
 fn name_in_first<'f>(folders: &[String], file: &'f str) -> Option<&'f str>
     ensures { option_map (λ n. n.now) result ≡ specs.name_in_first (map string_bytes folders.now) file.now }
 {
     for folder in folders {
-        if let Some(name) = name_below(folder.as_str(), file) {
+        if let Some(name) = name_in_folder(folder.as_str(), file) {
             return Some(name);
         }
     }
@@ -47,8 +41,8 @@ fn name_in_first<'f>(folders: &[String], file: &'f str) -> Option<&'f str>
 
 // The name by the folder, if the file is in it: what comes after the first folder `templates` below it, or else its
 // whole path below the folder.
-fn name_below<'f>(folder: &str, file: &'f str) -> Option<&'f str>
-    ensures { option_map (λ n. n.now) result ≡ specs.name_below folder.now file.now }
+fn name_in_folder<'f>(folder: &str, file: &'f str) -> Option<&'f str>
+    ensures { option_map (λ n. n.now) result ≡ specs.name_in_folder folder.now file.now }
 {
     let path = file.strip_prefix(folder)?;
     let name = path.strip_prefix("/")?;

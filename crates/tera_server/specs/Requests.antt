@@ -129,7 +129,7 @@ pub record IsOfCurrentTexts (Holds : Server → Json → Type 0) (s : Server) (j
 -- where the names of templates begin for a document: below the root of its site, if it has one
 abbrev pub roots_for : Server → List ℕ → RootsVal
 roots_for s name = record {
-  site = option_map (λ site. site.root) (site_for s.sites (map string_bytes s.folders.items) name);
+  root = option_map (λ site. site.root) (site_for s.sites (map string_bytes s.folders.items) name);
   folders = map string_bytes s.folders.items;
 }
 

@@ -320,11 +320,11 @@ impl Server {
         let folders = self.folders.as_slice();
         match self.sites.of(folders, file) {
             Some(site) => Roots {
-                site: Some(site.root()),
+                root: Some(site.root()),
                 folders,
             },
             None => Roots {
-                site: None,
+                root: None,
                 folders,
             },
         }

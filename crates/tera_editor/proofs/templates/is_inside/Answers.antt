@@ -1,8 +1,8 @@
 use Rattle.std.proofs.Common.{◌≡◌, ◌∙◌, None, Some, false, option_map, rules, sym, ap}
 use Rattle.std.specs.Option.{option_map_or}
 use Rattle.file_uris.specs.Names.{is_rooted}
-use Rattle.tera_editor.specs.Templates.{following}
-use Rattle.tera_editor.proofs.TemplateNames.{stripped}
+use Rattle.tera_workspace.specs.Sites.{following}
+use Rattle.tera_workspace.proofs.PathLemmas.{stripped}
 use Rattle.tera_editor.proofs.templates.is_inside.Goals as goal
 
 pub returns-in-Some : goal.returns-in-Some

@@ -4,8 +4,8 @@ use Rattle.tera_editor.proofs.templates.template_name.Goals as goal
 
 pub returns-in-Some : goal.returns-in-Some
 returns-in-Some c =
-    c.path_below.ensures ∙ ap (λ site. name_by (option_map (λ root. root.now) site) (map string_bytes c.args.roots.folders.now) c.args.file.now) (sym c.in-Some.is)
+    c.name_below.ensures ∙ ap (λ root. name_by (option_map (λ n. n.now) root) (map string_bytes c.args.roots.folders.now) c.args.file.now) (sym c.in-Some.is)
 
 pub returns-in-None : goal.returns-in-None
 returns-in-None c =
-    c.name_in_first.ensures ∙ ap (λ site. name_by (option_map (λ root. root.now) site) (map string_bytes c.args.roots.folders.now) c.args.file.now) (sym c.in-None.is)
+    c.name_in_first.ensures ∙ ap (λ root. name_by (option_map (λ n. n.now) root) (map string_bytes c.args.roots.folders.now) c.args.file.now) (sym c.in-None.is)

@@ -6,7 +6,7 @@ use Rattle.tera_editor.specs.Templates.{RootsVal}
 use Rattle.tera_server.proofs.server.Server.roots_for.Goals as goal
 
 abbrev roots : Option (List ℕ) → List (String Global) → RootsVal
-roots site folders = record { site = site; folders = map string_bytes folders }
+roots root folders = record { root = root; folders = map string_bytes folders }
 
 abbrev root_in : Option KeptSiteVal → Option (List ℕ)
 root_in o = option_map (λ s. s.root) o

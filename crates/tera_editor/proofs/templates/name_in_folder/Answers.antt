@@ -1,6 +1,7 @@
 use Rattle.std.proofs.Common.{◌∙◌, codes, Some, None, option_map, sym, ap}
-use Rattle.tera_editor.proofs.TemplateNames.{stripped, not_below, not_named, named_below, split_after}
-use Rattle.tera_editor.proofs.templates.name_below.Goals as goal
+use Rattle.tera_workspace.proofs.PathLemmas.{stripped}
+use Rattle.tera_editor.proofs.TemplateNames.{not_below, not_named, named_below, split_after}
+use Rattle.tera_editor.proofs.templates.name_in_folder.Goals as goal
 
 pub returns-in_err-path : goal.returns-in_err-path
 returns-in_err-path c =
