@@ -72,6 +72,10 @@ settings_in s folder = option_map settings_view (get_by_text s.of_folders folder
 abbrev pub file_in : Settings → List ℕ → Option (List ℕ)
 file_in s folder = option_map string_bytes (get_by_text s.files folder)
 
+abbrev pub libraries_in : Option SettingsVal → List (List ℕ)
+libraries_in None = []
+libraries_in (Some settings) = settings.libraries
+
 -- the settings of a folder are these, or none, and nothing else changes; and the same for its file
 abbrev pub IsSetAt : List ℕ → Option SettingsVal → Settings → Settings → Type 0
 IsSetAt folder settings old now = (f : List ℕ) → settings_in now f ≡ cond (bytes_eq folder f) settings (settings_in old f)

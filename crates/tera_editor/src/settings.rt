@@ -257,6 +257,16 @@ impl Settings {
         }
     }
 
+    /// The libraries of a folder, by its settings.
+    pub fn libraries_in(&self, folder: &str) -> &[String]
+        ensures { map string_bytes result.now ≡ specs.libraries_in (settings_in self.now folder.now) }
+    {
+        match self.of_folders.get(folder) {
+            Some(settings) => settings.libraries.as_slice(),
+            None => &[],
+        }
+    }
+
     /// The file of settings that counts for the folder, even if it is wrong.
     pub fn file_of(&self, folder: &str) -> Option<&str>
         ensures { option_map (λ f. f.now) result ≡ file_in self.now folder.now }
@@ -362,7 +372,7 @@ fn names_in(list: &Option<Vec<String>>) -> &[String]
 }
 
 /// The first of the folders that is the path, or contains it at any depth.
-pub(crate) fn folder_of<'f>(folders: &'f [String], path: &str) -> Option<&'f str>
+pub fn folder_of<'f>(folders: &'f [String], path: &str) -> Option<&'f str>
     ensures { option_map (λ f. f.now) result ≡ specs.folder_of (map string_bytes folders.now) path.now }
 {
     for folder in folders {
