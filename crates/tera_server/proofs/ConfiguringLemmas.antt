@@ -119,10 +119,11 @@ module _ (s a z b t : Server) (first : a ≡ record s { unpublished = a.unpublis
         subst (λ x. IsSiteAt folder (site_by found (sited_in s.sites folder)) s.sites x) (sym sites_are)
         (subst (λ x. IsSiteAt folder (site_by found (sited_in x folder)) x z.sites) (ap (λ x. x.sites) first) site);
     renewed = ap (λ x. x.renewed) sites_are ∙ renewed ∙ ap (λ x. x.sites.renewed) first;
-    published = elim published [
-      | inl kept ↦ inl (kept.0, kept.1, ap (λ u. map string_bytes u.items) unpublished_is ∙ kept.2)
-      | inr more ↦ inr (ap (λ u. map string_bytes u.items) unpublished_is ∙ more)
-    ];
+    published = record {
+      names = published.names;
+      inside = published.inside;
+      published = ap (λ u. map string_bytes u.items) unpublished_is ∙ published.published;
+    };
   }
 
 -- the site of a folder stays

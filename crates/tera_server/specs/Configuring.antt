@@ -1,5 +1,6 @@
 -- What settings of a folder change.
 use Rattle.std.specs.Prelude.{◌≡◌, ◌⊎◌, ◌++◌, ◌&&◌, ◌||◌, ◌==◌, ℕ, List, [], Bool, false, cond, filter, length, map, not, is_some, option_map, string_bytes, Option, None, Some, IfSome}
+use Rattle.std.specs.Bool.{beq}
 use Rattle.std.specs.List.{flat_map, list_any}
 use Rattle.std.specs.Option.{option_map_or}
 use Rattle.std.specs.Str.{bytes_eq}
@@ -8,7 +9,8 @@ use Rattle.tera_workspace.specs.SiteValues.{no_site}
 use Rattle.tera_workspace.specs.Workspaces.{reported_of_name}
 use Rattle.tera_workspace.specs.declared.workspace.Workspace.{Workspace}
 use Rattle.tera_server.specs.Sending.{unpublished_of}
-use Rattle.tera_editor.specs.Settings.{SettingsVal, file_in, finds_more, finds_more_if_any, reported_in, reports_others, settings_in, settings_view}
+use Rattle.tera_editor.specs.Editors.{seen_of}
+use Rattle.tera_editor.specs.Settings.{SettingsVal, file_in, finds_more, finds_more_if_any, folder_of, is_in_library, libraries_in, reported_in, reports_others, settings_in, settings_view}
 use Rattle.tera_editor.specs.Sites.{AreGiven, IsSiteAt, SitedVal, sited_in, with_nothing_known}
 use Rattle.tera_server.specs.States.{Grows, edited_of, needed_of, needs}
 use Rattle.tera_editor.specs.Templates.{is_inside}
@@ -66,6 +68,22 @@ is_left_to_others s folder =
 abbrev pub are_all_due : Server → List ℕ → FoundSettings → Bool
 are_all_due s folder found = finds_more_by found (settings_in s.settings folder) || is_left_to_others s folder
 
+-- a document is in the libraries of a folder
+abbrev pub is_in_libraries : Option SettingsVal → List ℕ → Bool
+is_in_libraries settings n = is_some (folder_of (libraries_in settings) n)
+
+-- a document that the editor has or had open comes into the libraries of a folder, or leaves them
+abbrev pub changes_library : Server → List ℕ → FoundSettings → List ℕ → Bool
+changes_library s folder found n =
+    let old = settings_in s.settings folder in
+    is_some (seen_of s.editor n) && not (beq (is_in_libraries old n) (is_in_libraries (settings_by found old) n))
+
+-- .. or is in a library, and in the folder, which may be opened or closed; and it has findings: outside of all folders
+-- only faults are reported of a library
+unfoldable pub is_due_by_library : Server → List ℕ → FoundSettings → List ℕ → Bool
+is_due_by_library s folder found n =
+    (changes_library s folder found n || (is_inside folder n && is_in_library s.settings n)) && not (length (reported_of_name s.workspace n) == 0)
+
 -- the site then, by that before; nothing is known of its documents and names yet
 abbrev pub site_below : Option (List ℕ) → Option SitedVal
 site_below root = option_map (λ r. with_nothing_known (no_site r [])) root
@@ -84,14 +102,20 @@ pub record IsUnconfigured (s t : Server) : Type 0 where
   pub markers : t.settings.markers ≡ s.settings.markers
   pub given : AreGiven s.sites → AreGiven t.sites
 
--- The documents in a folder that have findings are to be published, unless the same is reported there as before. If
--- more is found by the settings, or was, all its documents are; also if it is closed and left to other folders.
-abbrev pub ArePublishedAgain : List ℕ → FoundSettings → Server → Server → Type 0
-ArePublishedAgain folder found s t =
+-- The documents in a folder that have findings are to be published after the others, unless the same is reported there as
+-- before. If more is found by the settings, or was, all its documents are; also if it is closed and left to other folders.
+abbrev pub AreDueInside : List ℕ → FoundSettings → Server → List (List ℕ) → Type 0
+AreDueInside folder found s names =
     let old = settings_in s.settings folder in
     let all = are_all_due s folder found in
-    ((all ≡ false) × (reported_in (settings_by found old) ≡ reported_in old) × (unpublished_of t ≡ unpublished_of s))
-    ⊎ (unpublished_of t ≡ unpublished_of s ++ filter (is_due_inside s.workspace folder all) (map (λ d. d.name) (texts_read s.workspace)))
+    ((all ≡ false) × (reported_in (settings_by found old) ≡ reported_in old) × (names ≡ unpublished_of s))
+    ⊎ (names ≡ unpublished_of s ++ filter (is_due_inside s.workspace folder all) (map (λ d. d.name) (texts_read s.workspace)))
+
+-- .. and then those of libraries
+pub record ArePublishedAgain (folder : List ℕ) (found : FoundSettings) (s t : Server) : Type 0 where
+  pub names : List (List ℕ)
+  pub inside : AreDueInside folder found s names
+  pub published : unpublished_of t ≡ names ++ filter (is_due_by_library s folder found) (map (λ d. d.name) (texts_read s.workspace))
 
 -- They are the settings of the folder, and other folders keep theirs; and what is wrong in their file is known.
 pub record AreFoundSet (folder : List ℕ) (found : FoundSettings) (s t : Server) : Type 0 where

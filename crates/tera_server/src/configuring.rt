@@ -3,9 +3,9 @@
 ghost use Rattle.std.specs.Prelude.{◌≡◌, ◌++◌, false, true, map, string_bytes, IfOk, OnOk, OnErr};
 ghost use Rattle.std.specs.List.{filter, flat_map};
 ghost use Rattle.tera_workspace.specs.Definitions.{texts_read};
-ghost use Rattle.tera_server.specs.Configuring.{AreFoundSet, ArePublishedAgain, IsConfiguredBy, IsUnconfigured, are_all_due, finds_more_by, has_wrong_settings, is_due_inside, is_left_to_others, is_wrong_in, reports_others_near, settings_by, site_below, site_by};
+ghost use Rattle.tera_server.specs.Configuring.{AreDueInside, AreFoundSet, ArePublishedAgain, IsConfiguredBy, IsUnconfigured, are_all_due, changes_library, finds_more_by, has_wrong_settings, is_due_by_library, is_due_inside, is_left_to_others, is_wrong_in, reports_others_near, settings_by, site_below, site_by};
 ghost use Rattle.tera_server.specs.Sending.{unpublished_of};
-ghost use Rattle.tera_editor.specs.Settings.{is_in_library, reported_in, settings_for, settings_in, settings_view};
+ghost use Rattle.tera_editor.specs.Settings.{is_in_library, libraries_in, reported_in, settings_for, settings_in, settings_view};
 ghost use Rattle.tera_editor.specs.Sites.{AreGiven, IsSiteAt, sited_in};
 ghost use Rattle.tera_server.specs.States.{Grows, edited_of, needed_of, needs};
 ghost use Rattle.tera_editor.specs.UnreadFiles.{reason_view, why_of};
@@ -15,7 +15,7 @@ ghost use Rattle.tera_server.specs.declared.notes.NeededKind.TheVariants.{Folder
 use crate::notes::{NeededKind, has_name, need_all};
 use crate::server::Server;
 use std::alloc::{AllocError, Global};
-use tera_editor::settings::FolderSettings;
+use tera_editor::settings::{FolderSettings, folder_of};
 use tera_editor::templates::is_inside;
 use tera_editor::unread::Reason;
 use tera_workspace::Workspace;
@@ -45,7 +45,8 @@ impl Server {
     /// Sets what was found for the folder. If other findings are reported in it by that, because of other rules, its
     /// documents that have findings are published again; if something else is found by the settings than without, or
     /// was, all its documents are; also if the folder is closed, and other findings are reported by the settings of an
-    /// open folder in it or around it.
+    /// open folder in it or around it. Documents that have findings and come into its libraries, or leave them, are
+    /// published again too, and those in it that are in a library.
     /// After an allocation failure a part of this may be done.
     pub fn configure(
         &mut self,
@@ -172,8 +173,61 @@ impl Server {
         self.keeps_report(folder, found)
     }
 
-    // If something else is reported than before, the files in the folder that have findings are to be published; if
-    // more is found by the settings, or may be by those of another folder, all its files are.
+    // The libraries of the folder, with what was found.
+    fn libraries_by<'f>(&'f self, folder: &str, found: &'f FoundSettings) -> &'f [String]
+        ensures { map string_bytes result.now
+            ≡ libraries_in (settings_by found.now (settings_in self.now.settings folder.now)) }
+    {
+        match found {
+            FoundSettings::Nothing => &[],
+            FoundSettings::Set(_, settings) => settings.libraries.as_slice(),
+            FoundSettings::Wrong(_, _) => self.settings.libraries_in(folder),
+        }
+    }
+
+    // Whether the editor has the document open, or had it, and it comes into the libraries of the folder with what was
+    // found, or leaves them.
+    fn changes_library(&self, folder: &str, found: &FoundSettings, name: &str) -> bool
+        ensures { result ≡ changes_library self.now folder.now found.now name.now }
+    {
+        let before = folder_of(self.settings.libraries_in(folder), name);
+        let then = folder_of(self.libraries_by(folder, found), name);
+        self.editor.of(name).is_some() && before.is_some() != then.is_some()
+    }
+
+    // Whether the document has findings that may be reported as those of a library now, or not be any more: the editor
+    // has it open, and it comes into the libraries of the folder, or leaves them; or it is in a library, and in the
+    // folder, which may be opened or closed.
+    #[tactic(auto, unfolding(crate::specs::Configuring::is_due_by_library))]
+    fn is_due_by_library(&self, folder: &str, found: &FoundSettings, name: &str) -> bool
+        ensures { result ≡ is_due_by_library self.now folder.now found.now name.now }
+    {
+        (self.changes_library(folder, found, name)
+            || is_inside(folder, name) && self.is_in_library(name))
+            && !self.workspace.reported(name).is_empty()
+    }
+
+    fn due_by_library(
+        &self,
+        alloc: Global,
+        folder: &str,
+        found: &FoundSettings,
+    ) -> Result<Vec<String>, AllocError>
+        ensures { IfOk result (λ v. map string_bytes v.items
+            ≡ filter (is_due_by_library self.now folder.now found.now)
+            (map (λ s. s.name) (texts_read self.now.workspace))) }
+    {
+        let texts = self.workspace.texts(alloc)?;
+        let mut names = Vec::new(alloc);
+        for text in &texts {
+            if self.is_due_by_library(folder, found, text.file) {
+                names.push(String::from_str(alloc, text.file)?)?;
+            }
+        }
+        Ok(names)
+    }
+
+    // What has to be published again, with what was found: documents in the folder, and those of libraries.
     fn publish_if_others(
         &mut self,
         alloc: Global,
@@ -182,6 +236,40 @@ impl Server {
     ) -> Result<(), AllocError>
         ensures same { self.new ≡ record self.old { unpublished = self.new.unpublished } }
         ensures published { OnOk result (ArePublishedAgain folder.now found.now self.old self.new) }
+        ensures grows { Grows (unpublished_of self.old) (unpublished_of self.new) }
+    {
+        self.publish_inside(alloc, folder, found)?;
+        self.publish_by_library(alloc, folder, found)
+    }
+
+    fn publish_by_library(
+        &mut self,
+        alloc: Global,
+        folder: &str,
+        found: &FoundSettings,
+    ) -> Result<(), AllocError>
+        ensures same { self.new ≡ record self.old { unpublished = self.new.unpublished } }
+        ensures published { OnOk result (unpublished_of self.new ≡ unpublished_of self.old
+            ++ filter (is_due_by_library self.old folder.now found.now)
+            (map (λ s. s.name) (texts_read self.old.workspace))) }
+        ensures err { OnErr result (unpublished_of self.new ≡ unpublished_of self.old) }
+    {
+        let mut names = self.due_by_library(alloc, folder, found)?;
+        self.unpublished.append(&mut names)?;
+        Ok(())
+    }
+
+    // If something else is reported than before, the files in the folder that have findings are to be published; if
+    // more is found by the settings, or may be by those of another folder, all its files are.
+    fn publish_inside(
+        &mut self,
+        alloc: Global,
+        folder: &str,
+        found: &FoundSettings,
+    ) -> Result<(), AllocError>
+        ensures same { self.new ≡ record self.old { unpublished = self.new.unpublished } }
+        ensures published { OnOk result
+            (AreDueInside folder.now found.now self.old (unpublished_of self.new)) }
         ensures grows { Grows (unpublished_of self.old) (unpublished_of self.new) }
     {
         let all = self.are_all_due(folder, found);
