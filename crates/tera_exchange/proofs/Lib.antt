@@ -1,3 +1,4 @@
+pub mod EndingLemmas
 pub mod ListedLemmas
 pub mod NameLemmas
 pub mod SendLemmas

@@ -29,7 +29,7 @@ use Rattle.tera_editor.specs.Sites.{NoneDue}
 use Rattle.tera_server.specs.declared.server.OnDisk.{OnDisk}
 use Rattle.tera_server.specs.declared.server.Server.{Server}
 use Rattle.tera_server.specs.declared.server.Needed.{Needed}
-use Rattle.tera_exchange.specs.Serving.{Takes, Settles, IsNew, IsAsked, IsLoaded, IsUnloaded, AreLoaded, AreLoadedInPart, LoadedNone, LoadedNext, Gives, GaveNames, AreNamesSaid, Publishes, PublishesAll, Talks, Silent, Took, Settled, Given, Rounds, NoRound, NextRound, or_short, IsAtRest, IsOver, IsServed, IsTalking, ended_of, IsLeft, IsWaiting, Rests}
+use Rattle.tera_exchange.specs.Serving.{Takes, Settles, IsNew, IsAsked, IsLoaded, IsUnloaded, AreLoaded, AreLoadedInPart, LoadedNone, LoadedNext, Gives, GaveNames, AreNamesSaid, Publishes, PublishesAll, Talks, Silent, Took, Settled, Given, Rounds, NoRound, NextRound, or_short, IsAtRest, IsOver, IsServedBy, IsTalking, ended_of, IsLeft, IsWaiting, Rests}
 use Rattle.tera_exchange.specs.declared.server.Left.{Left}
 use Rattle.tera_exchange.specs.declared.server.Left.TheVariants as lefts
 use Rattle.tera_show.proofs.Known.{appends_more}
@@ -368,31 +368,33 @@ new_rests s new = record { given = new.none.0; published = λ running. rw (new.n
 
 served : (limit : ℕ) (finished : Ended) (short : Bool) (ended : Option Ended) (s t : Server) (bytes rest : List ℕ) (sent : List (List ℕ)) (read unread old new : Option (List ℕ)) →
     IsNew s → Consumes read unread bytes → Rounds limit s short ended bytes rest sent t → Appends old new (flat_map frame sent) → IsOver ended finished t rest unread →
-    IsServed limit finished short read unread old new
+    IsServedBy s limit finished short read unread old new
 served limit finished short ended s t bytes rest sent read unread old new fresh came rounds written over =
-    let (items, begins, talked) = rounds_taken limit s short ended bytes rest sent t rounds in
-    record {
-      first = s;
-      last = t;
-      bytes = bytes;
-      items = items;
-      rest = rest;
-      sent = sent;
-      ended = ended;
-      fresh = fresh;
-      came = came;
-      begins = begins;
-      talked = talked;
-      written = written;
-      over = over;
-      rounds = rounds;
-      done = rounds_done limit s (new_rests s fresh) short ended bytes rest sent t rounds;
-    }
+    let (items, begins, talked) = rounds_taken limit s short ended bytes rest sent t rounds in (
+      record {
+        first = s;
+        last = t;
+        bytes = bytes;
+        items = items;
+        rest = rest;
+        sent = sent;
+        ended = ended;
+        fresh = fresh;
+        came = came;
+        begins = begins;
+        talked = talked;
+        written = written;
+        over = over;
+        rounds = rounds;
+        done = rounds_done limit s (new_rests s fresh) short ended bytes rest sent t rounds;
+      },
+      refl,
+    )
 
 -- a message ended it
 pub served_ended : (limit : ℕ) (finished : Ended) (short : Bool) (s t u : Server) (bytes piece : List ℕ) (held now : Held) (read unread old mid new : Option (List ℕ)) → IsNew s →
     Consumes read unread (bytes ++ piece) → (k : IsReading limit short s t bytes held old mid) → IsWaiting limit (lefts.Ended finished) t u (k.rest ++ piece) now mid new →
-    IsServed limit finished short read unread old new
+    IsServedBy s limit finished short read unread old new
 served_ended limit finished short s t u bytes piece held now read unread old mid new fresh came k w =
     served limit finished short (Some finished) s u (bytes ++ piece) w.talking.rest (k.sent ++ w.talking.sent) read unread old new fresh came
     (next_round limit short (lefts.Ended finished) s t u bytes piece held now old mid new k w)
@@ -400,7 +402,7 @@ served_ended limit finished short s t u bytes piece held now read unread old mid
 
 -- nothing more came
 pub served_at_end : (limit : ℕ) (finished : Ended) (short : Bool) (s t : Server) (bytes more : List ℕ) (held : Held) (read unread old new : Option (List ℕ)) → IsNew s → Consumes read unread (bytes ++ more) →
-    more ≡ [] → IsAtEnd unread → finished ≡ ended_at t.phase → IsReading limit short s t bytes held old new → IsServed limit finished short read unread old new
+    more ≡ [] → IsAtEnd unread → finished ≡ ended_at t.phase → IsReading limit short s t bytes held old new → IsServedBy s limit finished short read unread old new
 served_at_end limit finished short s t bytes more held read unread old new fresh came none end is k =
     served limit finished short None s t bytes k.rest k.sent read unread old new fresh (subst (Consumes read unread) (ap (λ xs. bytes ++ xs) none ∙ append-nil bytes) came) k.rounds k.written
     (is, k.partial, end)

@@ -1,5 +1,5 @@
 -- What `tera server` writes, by what comes.
-use Rattle.std.specs.Prelude.{◌≡◌, ◌⊎◌, ⊤, ◌++◌, ℕ, Bool, true, false, List, [], ◌∷◌, All, Contains, filter, map, string_bytes, Option, None, Some, unwrap_or}
+use Rattle.std.specs.Prelude.{◌≡◌, ◌⊎◌, ⊤, ◌++◌, ℕ, Bool, true, false, List, [], ◌∷◌, All, Contains, filter, map, string_bytes, Option, None, Some, IfSome, unwrap_or}
 use Rattle.std.specs.Io.KnownBytes.{Appends, Consumes, IsAtEnd}
 use Rattle.std.specs.List.{flat_map, list_any}
 use Rattle.std.specs.Option.{option_to_list}
@@ -14,6 +14,8 @@ use Rattle.message_frames.specs.Shown.{Shown, Message, TooLong, Bad, Wait, frame
 use Rattle.message_frames.specs.Stream.{Item, Begins, IsPartial}
 use Rattle.message_frames.specs.Writing.{frame}
 use Rattle.tera_files.specs.Finding.{AreOfAll}
+use Rattle.tera_lexer.specs.grammar.Marks.{IsValid, Marks}
+use Rattle.tera_program_parts.specs.Markers.{AreOthersBy}
 use Rattle.tera_program_parts.specs.declared.extensions.TheConstants.{EXTENSIONS}
 use Rattle.tera_exchange.specs.declared.server.Left.{Left}
 use Rattle.tera_exchange.specs.declared.server.Left.TheVariants as lefts
@@ -27,6 +29,7 @@ use Rattle.tera_server.specs.States.{known_of, text_on, why_on, IsLoadedAs, IsNo
 use Rattle.tera_server.specs.Steps.{ended_at, Step, IsRefused, IsUntaken}
 use Rattle.tera_server.specs.declared.configuring.FoundSettings.{FoundSettings}
 use Rattle.tera_server.specs.declared.server.Ended.{Ended}
+use Rattle.tera_server.specs.declared.server.Ended.TheVariants.{Early, Orderly}
 use Rattle.tera_server.specs.declared.server.Phase.TheVariants.{New, Running}
 use Rattle.tera_editor.specs.KnownFiles.{is_known, known_names, IsKnownAs}
 use Rattle.tera_editor.specs.Templates.{is_inside}
@@ -241,14 +244,14 @@ pub data Gives (s : Server) : Server → Type 0 where
   GaveAll : (t u : Server) → Gives s t → IsAsked None t u → Gives s u
   GaveNames : (t u : Server) → Gives s t → AreNamesSaid t u → Gives s u
 
--- it is said of names whether there are files, and then findings are published: all of them or, if an allocation fails,
--- a part
+-- it may be set for names whether there are files, and then findings are published: all of them or, if an allocation
+-- fails, a part
 pub record Publishes (s t : Server) (sent : Outgoing) : Type 0 where
   pub mid : Server
   pub said : AreNamesSaid s mid
   pub settled : Settles mid t sent
 
--- .. all of them; and in an exchange that has begun it was said of all names, or none was to be asked after all was read
+-- .. all of them; and no name is due when they are published, or after that, if the exchange has begun
 pub record PublishesAll (s t : Server) (sent : Outgoing) : Type 0 where
   pub mid : Server
   pub said : AreNamesSaid s mid
@@ -332,6 +335,35 @@ pub record IsServed (limit : ℕ) (finished : Ended) (short : Bool) (read unread
   pub over : IsOver ended finished last rest unread
   pub rounds : Rounds limit first short ended bytes rest sent last
   pub done : ended ≡ None → short ≡ false → IsAtRest last
+
+-- .. by this server
+abbrev pub IsServedBy : Server → ℕ → Ended → Bool → Option (List ℕ) → Option (List ℕ) → Option (List ℕ) → Option (List ℕ) → Type 0
+IsServedBy s limit finished short read unread old new =
+    (served : IsServed limit finished short read unread old new) × (served.first ≡ s)
+
+-- ---- how the program ends
+
+-- the markers in these words, if they are not the default ones; templates can be read between them
+abbrev pub AreFit : Option (List ℕ) → Option Marks → Type 0
+AreFit words others = AreOthersBy words others × IfSome others IsValid
+
+-- .. these are the markers of all templates; without words, no markers are set for all
+abbrev pub AreSet : Option (List ℕ) → Option (Option Marks) → Type 0
+AreSet None set = set ≡ None
+AreSet (Some text) None = ⊥
+AreSet (Some text) (Some others) = AreFit (Some text) others
+
+abbrev pub is_early : Ended → Bool
+is_early Orderly = false
+is_early Early = true
+
+-- an exchange was served by a server with the markers in these words; something is found if it ended early
+pub record EndsAsServed (words : Option (List ℕ)) (limit : ℕ) (found : Bool) (read unread old new : Option (List ℕ)) : Type 0 where
+  pub finished : Ended
+  pub short : Bool
+  pub served : IsServed limit finished short read unread old new
+  pub markers : AreSet words served.first.settings.markers
+  pub early : found ≡ is_early finished
 
 -- ---- the exchange so far
 

@@ -1,6 +1,6 @@
 //! `tera server`.
 
-ghost use Rattle.std.specs.Prelude.{◌≡◌, ◌<◌, ◌++◌, ℕ, List, [], length, false, is_some, map, string_bytes, Option, None, IfOk, OnOk, OnErr, unwrap_or};
+ghost use Rattle.std.specs.Prelude.{◌≡◌, ◌<◌, ◌++◌, ℕ, List, [], length, true, false, map, string_bytes, Option, None, IfErr, IfOk, OnOk, OnErr, unwrap_or};
 ghost use Rattle.std.specs.Io.KnownBytes.{Appends, Consumes, IsAtEnd};
 ghost use Rattle.std.specs.List.{flat_map};
 ghost use Rattle.std.specs.Option.{option_map};
@@ -9,7 +9,9 @@ ghost use Rattle.message_frames.specs.Shown.{Message, shown};
 ghost use Rattle.message_frames.specs.Representing.{Represents};
 ghost use Rattle.message_frames.specs.Writing.{frame as frame_text};
 ghost use Rattle.tera_files.specs.Names.{texts};
-ghost use Rattle.tera_exchange.specs.Serving.{Takes, Publishes, PublishesAll, Rests, IsLoaded, IsUnloaded, AreKnownGiven, AreKnownGivenInPart, AreLoaded, AreLoadedInPart, AreLibrariesGiven, AreLibrariesGivenInPart, AreListed, AreListedGiven, AreSomeGiven, AreSomeGivenInPart, AreListedGivenInPart, IsFolderGiven, IsFolderGivenInPart, IsOpenGiven, IsOpenGivenInPart, extensions, extensions_in, libraries_in, AreGiven, AreGivenInPart, AreGivenAnew, AreGivenAnewInPart, AreNamesSaid, IsNameSaid, IsGivenInPart, Gives, IsNew, IsTalking, IsWaiting, IsServed};
+ghost use Rattle.tera_lexer.specs.grammar.Marks.{Marks};
+ghost use Rattle.tera_program_parts.specs.Markers.{IsUnfit};
+ghost use Rattle.tera_exchange.specs.Serving.{Takes, Publishes, PublishesAll, Rests, IsLoaded, IsUnloaded, AreKnownGiven, AreKnownGivenInPart, AreLoaded, AreLoadedInPart, AreLibrariesGiven, AreLibrariesGivenInPart, AreListed, AreListedGiven, AreSomeGiven, AreSomeGivenInPart, AreListedGivenInPart, IsFolderGiven, IsFolderGivenInPart, IsOpenGiven, IsOpenGivenInPart, extensions, extensions_in, libraries_in, AreGiven, AreGivenInPart, AreGivenAnew, AreGivenAnewInPart, AreNamesSaid, IsNameSaid, IsGivenInPart, Gives, IsNew, IsTalking, IsWaiting, IsServedBy, EndsAsServed, AreFit, AreSet, is_early};
 ghost use Rattle.tera_server.specs.Naming.{OnlyNames};
 ghost use Rattle.tera_editor.specs.Sites.{NoneDue, due_of_sites, used_view};
 ghost use Rattle.tera_server.specs.States.{NeedsChanged, needed_view, needed_of};
@@ -68,7 +70,25 @@ const PIECE: usize = 0x1_0000;
 pub fn run<R: Files + Input + Print + Eprint + AllocGlobal + Clone + Drop>(
     rt: &R,
     markers: Option<&str>,
-) -> Ended {
+) -> Ended
+    ensures fit { result.failed ≡ false → (others : Option Marks)
+        × AreFit (option_map (λ t. t.now) markers.entry) others }
+    ensures failed { result.failed ≡ true → result.found ≡ false }
+{
+    ended_over(rt, markers, &mut rt.reader(), &mut io::writer(rt))
+}
+
+// Serves an editor with any reader and any writer. Prints on standard error what went wrong.
+fn ended_over<F: Files + Input + Eprint + AllocGlobal + Clone + Drop, R: Read, W: Write>(
+    rt: &F,
+    markers: Option<&str>,
+    reader: &mut R,
+    writer: &mut W,
+) -> Ended
+    ensures served { result.failed ≡ false → EndsAsServed (option_map (λ t. t.now) markers.entry) LONGEST result.found
+        (R.remaining reader.old) (R.remaining reader.new) (W.contents writer.old) (W.contents writer.new) }
+    ensures failed { result.failed ≡ true → result.found ≡ false }
+{
     let server = match server_with(rt.alloc(), markers) {
         Ok(server) => server,
         Err(why) => {
@@ -76,21 +96,26 @@ pub fn run<R: Files + Input + Print + Eprint + AllocGlobal + Clone + Drop>(
             return Ended::failed();
         }
     };
-    match serve(rt, server, &mut rt.reader(), &mut io::writer(rt)) {
-        Ok(served) => {
-            if served.short {
-                let why = "out of memory: findings were published late, or not at all";
-                print_error(rt, "tera", why);
-            }
-            Ended {
-                found: served.finished == Finished::Early,
-                failed: false,
-            }
-        }
+    match serve(rt, server, reader, writer) {
+        Ok(served) => ended_after(rt, served),
         Err(error) => {
             print_error(rt, "tera", why(&error));
             Ended::failed()
         }
+    }
+}
+
+// How the program ends after an exchange. Prints an error if an allocation for a part of it failed.
+fn ended_after<F: Eprint + AllocGlobal>(rt: &F, served: Served) -> Ended
+    ensures { result ≡ record { found = is_early served.finished; failed = false } }
+{
+    if served.short {
+        let why = "out of memory: findings were published late, or not at all";
+        print_error(rt, "tera", why);
+    }
+    Ended {
+        found: served.finished == Finished::Early,
+        failed: false,
     }
 }
 
@@ -105,18 +130,26 @@ fn why(error: &io::Error) -> &'static str {
 // A server to which nothing was sent. All templates have the markers in these words, if there are words.
 fn server_with(alloc: Global, words: Option<&str>) -> Result<Server, Unfit>
     ensures new { IfOk result IsNew }
-    ensures given { IfOk result (λ s. is_some s.settings.markers ≡ is_some words.entry) }
+    ensures given { IfOk result (λ s. AreSet (option_map (λ t. t.now) words.entry) s.settings.markers) }
+    ensures unfit { IfErr result (IsUnfit (option_map (λ t. t.now) words.entry)) }
 {
     let mut server = Server::new(alloc);
     if words.is_none() {
         return Ok(server);
     }
-    let markers = match other_markers_of(alloc, words)? {
-        Some(markers) => Markers::of(alloc, markers),
-        None => None,
-    };
-    server.set_markers(markers);
+    server.set_markers(markers_of(alloc, words)?);
     Ok(server)
+}
+
+// The markers in these words, if they are not the default ones.
+fn markers_of(alloc: Global, words: Option<&str>) -> Result<Option<Markers>, Unfit>
+    ensures fit { IfOk result (AreFit (option_map (λ t. t.now) words.entry)) }
+    ensures unfit { IfErr result (IsUnfit (option_map (λ t. t.now) words.entry)) }
+{
+    match other_markers_of(alloc, words)? {
+        Some(markers) => Ok(Markers::of(alloc, markers)),
+        None => Ok(None),
+    }
 }
 
 // Answers the messages that come from the reader, until one ends the exchange, or the reader has no more.
@@ -127,7 +160,7 @@ fn serve<F: Files + Input + AllocGlobal + Clone + Drop, R: Read, W: Write>(
     writer: &mut W,
 ) -> io::Result<Served>
     requires { IsNew server }
-    ensures { IfOk result (λ served. IsServed LONGEST served.finished served.short
+    ensures { IfOk result (λ served. IsServedBy server LONGEST served.finished served.short
         (R.remaining reader.old) (R.remaining reader.new) (W.contents writer.old) (W.contents writer.new)) }
 {
     let alloc = files.alloc();
