@@ -102,7 +102,7 @@ pub struct Options {
     pub escapes: bool,
     /// The sources are too long to try each of their beginnings.
     pub uncut: bool,
-    /// Each answer is asked for again where memory is refused.
+    /// Each answer is computed again while allocations fail.
     pub refused: bool,
 }
 

@@ -51,7 +51,7 @@ fn push_line(text: &mut String, line: &str) -> Result<(), AllocError> {
     text.push_str("\n")
 }
 
-// The one case of lines of which the first such line is that between the source and the answer.
+// The one case of these lines. The first line `---` is between its source and its answer.
 fn one_case(alloc: Global, title: usize, lines: &[Line<'_>]) -> Result<Vec<Case>, CaseError> {
     let mut source = String::new(alloc);
     let mut expected = String::new(alloc);

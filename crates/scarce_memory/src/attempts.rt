@@ -41,13 +41,13 @@ pub enum Verdict {
 // More runs than a room has pieces of 32 bytes.
 const RUNS: u16 = 1040;
 
-// So many runs in turn meet no refusal before the last one.
+// In so many runs in turn no allocation fails before the last one.
 const USUAL: u16 = 16;
 
-/// Calls with nothing that is free, and then with a piece of 32 bytes more each time, until the call has met no refusal
-/// for some runs.
+/// Calls with no free memory, and then with a piece of 32 bytes more each time, until no allocation fails in some
+/// runs.
 ///
-/// Each growth takes 32 bytes at least, so each that takes new memory is refused in some run.
+/// Each growth takes 32 bytes at least, so each that takes new memory fails in some run.
 pub fn refuse<A: Attempt>(alloc: Global, call: &A) -> Result<Verdict, AllocError> {
     let mut scarce = Scarce::new(alloc, RUNS)?;
     let mut refused = 0u16;

@@ -1,4 +1,4 @@
-//! Taking memory until none is left, so that a growth is refused.
+//! Taking memory until none is left, so that allocations fail.
 
 use std::alloc::{AllocError, Global};
 

@@ -1,4 +1,4 @@
-//! Maps, contexts and notes that grow, and are refused a growth.
+//! Maps, contexts and notes that fail to allocate when they grow.
 
 use scarce_memory::Scarce;
 use std::alloc::{AllocError, Global};

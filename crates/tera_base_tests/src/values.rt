@@ -10,7 +10,7 @@ fn key(alloc: Global, name: &str) -> Result<Key, AllocError> {
     Ok(Key::String(String::from_str(alloc, name)?))
 }
 
-// Whether the map answers so when this is put into it.
+// Whether the map gives this value as the one before, when the pair is put into it.
 fn puts(all: &mut Map, key: Key, value: Value, before: Option<Value>) -> Result<bool, Error> {
     Ok(all.insert(key, value)? == before)
 }
@@ -137,7 +137,7 @@ const LEAST_OF_I64: &str = "-9223372036854775808";
 
 const MOST_OF_U64: &str = "18446744073709551615";
 
-// Of each of the values the name of its kind, what it answers, its text, and a part of what `Debug` shows of it.
+// For each of the values: the name of its kind, what its tests give, its text, and a part of its `Debug` text.
 const TOLD: [[&str; 4]; 19] = [
     ["undefined", "u", "undefined", "Undefined"],
     ["none", "0", "null", "None"],

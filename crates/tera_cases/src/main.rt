@@ -36,7 +36,7 @@ use std::{env, fs};
 // How a run ended.
 #[derive(Clone, Copy)]
 enum End {
-    // Each answer is what is wanted.
+    // Each answer is the expected one.
     Equal,
     // Some answer is not.
     Different,

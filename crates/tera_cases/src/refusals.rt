@@ -1,4 +1,4 @@
-//! Answers that are asked for again where memory is refused.
+//! Answers that are computed again while allocations fail.
 
 use crate::answers::{answer, is_template, of_tree};
 use crate::faces::equals_its_copy;
@@ -17,7 +17,7 @@ struct Asked<'a> {
     expected: &'a str,
 }
 
-/// What is wrong with the answers to the source where memory is refused, if anything is.
+/// What is wrong with the answers to the source while allocations fail, if anything is.
 pub(crate) fn wrong_refusals<'x>(
     alloc: Global,
     setting: &'x Setting<'x>,

@@ -8,7 +8,7 @@ use std::alloc::{AllocError, Global};
 use tera_base::Error;
 use tera_parser::ParserOutput;
 
-/// Whether a source has a tree of which all holds that has to.
+/// Whether a source has a tree, and all that has to hold of it does.
 #[derive(Clone, Copy)]
 pub(crate) enum Soundness {
     NoTree,

@@ -5,7 +5,7 @@ use scarce_memory::{Attempt, Seen, Verdict, refuse};
 use std::alloc::Global;
 use std::test::Fail;
 
-// A page that is read and put right.
+// A page that is read and corrected.
 #[derive(Clone, Copy)]
 struct Suggesting;
 

@@ -2,8 +2,8 @@
 //!
 //! Of `tera_mend`: the modules `mend_..`. Of `tera_check`: `definitions`, `findings`, `levels`, `refusals`. Of
 //! `tera_site`, `tera_fixes`, `tera_catalogue` and `tera_report`: those with their names in front. Of `tera_workspace`:
-//! `workspaces`, `sites`. Where requests of memory are refused, all memory is taken that the process can get. So these
-//! tests are run as they are proved, by `rt test` or `rt ci`, and not by `rt try`.
+//! `workspaces`, `sites`. Tests in which each allocation fails in turn take all memory that the process can get, so they
+//! are run as they are proved, by `rt test` or `rt ci`, and not by `rt try`.
 #![tactic(auto)]
 
 #[cfg(test)]

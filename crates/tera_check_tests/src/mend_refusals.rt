@@ -1,4 +1,4 @@
-//! Sources that are mended where memory is refused.
+//! Sources that are mended while allocations fail.
 
 use crate::mend_reported::reported;
 use scarce_memory::{Attempt, Seen, Verdict, refuse};
@@ -14,7 +14,7 @@ const SOURCES: [&str; 4] = [
     "{% iff a %}b{% endif %}{% if c %}",
 ];
 
-// A source, and what is answered with ample memory.
+// A source, and its result with ample memory.
 #[derive(Drop)]
 struct Mending<'a> {
     source: &'a str,

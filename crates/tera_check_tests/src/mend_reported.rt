@@ -1,4 +1,4 @@
-//! What is answered of a source, as text.
+//! The result for a source, as text.
 
 use std::alloc::{AllocError, Global};
 use tera_mend::{Fault, Limit, Mended, mend};

@@ -1,4 +1,4 @@
-//! Templates that are read where memory is refused.
+//! Templates that are read while allocations fail.
 
 use scarce_memory::{Attempt, Seen, Verdict, refuse};
 use std::alloc::{AllocError, Global};

@@ -1,4 +1,4 @@
-//! What is kept of a site while its documents come, change and go, and where each request of memory is refused.
+//! What is kept of a site while its documents come, change and go, and while each allocation fails in turn.
 
 use scarce_memory::{Attempt, Seen, Verdict, refuse};
 use std::alloc::{AllocError, Global};

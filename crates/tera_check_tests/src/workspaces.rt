@@ -1,4 +1,4 @@
-//! Documents of a workspace that are opened, changed and judged where memory is refused.
+//! Documents of a workspace that are opened, changed and checked while allocations fail.
 
 use scarce_memory::{Attempt, Seen, Verdict, refuse};
 use std::alloc::{AllocError, Global};

@@ -1,4 +1,4 @@
-//! Calls whose memory is refused.
+//! Calls whose allocations fail.
 
 use crate::room::{Room, expect};
 use scarce_memory::{Attempt, Seen, Verdict, refuse};
@@ -58,7 +58,7 @@ impl Attempt for Replacing<'_> {
     }
 }
 
-// That memory is refused to the attempt, which answers as usual at last.
+// Whether allocations of the attempt fail, and it gives its usual result in the end.
 fn is_refused(rt: &HostRuntime, attempt: &impl Attempt) -> Result<bool, Fail> {
     let verdict = refuse(rt.alloc(), attempt)?;
     Ok(matches!(verdict, Verdict::Refused(times) if times > 0))

@@ -67,7 +67,7 @@ fn what_is_no_text_is_reported(rt: HostRuntime) -> Result<(), Fail> {
     room.remove()
 }
 
-// Whether this call of reading fails, of which is reported; else the text is read.
+// Whether there is a call of this number while the file is read. It fails, which has to be reported.
 fn fails(rt: &HostRuntime, room: &Room<'_>, call: u32) -> Result<bool, Fail> {
     let calls = Cell::new(0);
     let runtime = Failing {

@@ -157,7 +157,7 @@ fn a_changed_file_is_left(rt: HostRuntime) -> Result<(), Fail> {
     room.remove()
 }
 
-// Which calls fail, with which error, on a file of so many names, whose text becomes which.
+// Which calls fail, and with which error; whether the file has two names; its text, and the new one.
 #[derive(Clone, Copy)]
 struct Try<'a> {
     fault: Fault,

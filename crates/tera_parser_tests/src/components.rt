@@ -5,7 +5,7 @@ use std::test::Fail;
 use tera_base::{Error, Value};
 use tera_tree::{ComponentArgument, ComponentDefinition};
 
-/// What a function answers at each name.
+/// The result of a function for each name.
 #[derive(Clone, Copy)]
 enum Answer {
     Yes,
@@ -27,8 +27,8 @@ fn found(alloc: Global, answer: Answer) -> Result<Value, Error> {
     Ok(value(alloc, answer)?.unwrap_or(Value::Undefined))
 }
 
-// The value of `user` in the context of the component, or the text of the error: with these names, what is answered at
-// names, and what at implicit arguments.
+// The value of `user` in the context of the component, or the text of the error. It is given the names, and the results
+// of the functions for names and for implicit arguments.
 fn context_text(
     alloc: Global,
     definition: &ComponentDefinition,
@@ -56,7 +56,7 @@ fn add_user(alloc: Global, definition: &mut ComponentDefinition) -> Result<(), A
     Ok(())
 }
 
-// What is answered at names, what at implicit arguments, and what is shown then.
+// The result for names, the result for implicit arguments, and what is shown then.
 const USERS: [(Answer, Answer, &str); 5] = [
     (Answer::Nothing, Answer::Stop, "stop"),
     (Answer::Nothing, Answer::NoMemory, "out of memory"),

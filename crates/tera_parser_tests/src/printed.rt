@@ -63,7 +63,7 @@ fn expressions_of_no_source(rt: HostRuntime) -> Result<(), Fail> {
     Ok(())
 }
 
-// A definition of two arguments, the first of whose names is none.
+// A definition of two arguments. The name of the first is not a name of the language.
 fn definition(alloc: Global) -> Result<ComponentDefinition, AllocError> {
     let mut definition = ComponentDefinition::empty(alloc);
     for name in &["é", "z"] {

@@ -1,4 +1,4 @@
-//! What is said of files that are wrong.
+//! The errors of files that are wrong.
 
 use crate::shown::shown;
 use std::test::Fail;

@@ -1,4 +1,4 @@
-//! Tests of the settings of a site: what files mean, and what is said of those that are wrong.
+//! Tests of the settings of a site: what files mean, the errors of those that are wrong, and allocations that fail.
 #![tactic(auto)]
 
 #[cfg(test)]

@@ -1,4 +1,4 @@
-//! Calls whose memory is refused.
+//! Calls whose allocations fail.
 
 use scarce_memory::{Attempt, Seen, Verdict, refuse};
 use std::alloc::Global;
