@@ -21,7 +21,7 @@ use Rattle.tera_exchange.specs.declared.server.Left.{Left}
 use Rattle.tera_exchange.specs.declared.server.Left.TheVariants as lefts
 use Rattle.tera_server.specs.Configuring.{AreAsked, IsConfiguredBy, IsUnconfigured}
 use Rattle.tera_server.specs.Naming.{IsPresenceSaid, OnlyNames}
-use Rattle.tera_editor.specs.Settings.{SettingsVal, settings_for}
+use Rattle.tera_editor.specs.Settings.{SettingsVal, libraries_in, settings_for}
 use Rattle.tera_server.specs.Settling.{due_of, IsSettling, ArePublishedInPart}
 use Rattle.tera_server.specs.Sending.{unpublished_of}
 use Rattle.tera_editor.specs.Sites.{AreAround, AreDueAgain, AreGiven as AreOthersGiven, NoneDue, UsedVal, renewed_of, site_in}
@@ -136,16 +136,12 @@ abbrev pub AreSomeGiven : Server → Server → Type 0
 AreSomeGiven s t = (files : List (List ℕ)) × AreLoaded s files t
 
 -- the templates of the libraries of a folder are given, by its settings
-abbrev pub libraries_by : Option SettingsVal → List (List ℕ)
-libraries_by None = []
-libraries_by (Some settings) = settings.libraries
-
-abbrev pub libraries_in : Server → List ℕ → List (List ℕ)
-libraries_in s path = libraries_by (settings_for s.settings (map string_bytes s.folders.items) path)
+abbrev pub libraries_for : Server → List ℕ → List (List ℕ)
+libraries_for s path = libraries_in (settings_for s.settings (map string_bytes s.folders.items) path)
 
 abbrev pub AreLibrariesGiven : List ℕ → Server → Server → Type 0
 AreLibrariesGiven folder s t =
-    (files : List (List ℕ)) × AreListed (extensions_in s folder) (libraries_in s folder) files × AreLoaded s files t
+    (files : List (List ℕ)) × AreListed (extensions_in s folder) (libraries_for s folder) files × AreLoaded s files t
 
 -- .. then what is in a folder, the files that were known and are in no folder and no library any more, and its
 -- libraries
@@ -187,7 +183,7 @@ AreSomeGivenInPart s t = (files : List (List ℕ)) × AreLoadedInPart files s t
 
 abbrev pub AreLibrariesGivenInPart : List ℕ → Server → Server → Type 0
 AreLibrariesGivenInPart folder s t =
-    (t ≡ s) ⊎ ((files : List (List ℕ)) × AreListed (extensions_in s folder) (libraries_in s folder) files × AreLoadedInPart files s t)
+    (t ≡ s) ⊎ ((files : List (List ℕ)) × AreListed (extensions_in s folder) (libraries_for s folder) files × AreLoadedInPart files s t)
 
 -- the settings, or what comes after them
 abbrev pub AreFilesGivenInPart : List ℕ → Server → Server → Type 0
@@ -226,8 +222,8 @@ pub record IsGivenInPart (needed : NeededVal) (s t : Server) : Type 0 where
   pub same : t ≡ record mid { needed = t.needed }
   pub again : (needed_of t ≡ needed_of mid ++ needed ∷ []) ⊎ (needed_of t ≡ needed_of mid)
 
--- the documents are read, and it may be set for names that templates use and none has whether there may be a file;
--- nothing else changes
+-- documents may be read, and it may be set for names that templates use and none has whether there may be a file; what
+-- is to be published stays so
 abbrev pub AreNamesSaid : Server → Server → Type 0
 AreNamesSaid s t = OnlyNames s t
 

@@ -11,7 +11,7 @@ ghost use Rattle.message_frames.specs.Writing.{frame as frame_text};
 ghost use Rattle.tera_files.specs.Names.{texts};
 ghost use Rattle.tera_lexer.specs.grammar.Marks.{Marks};
 ghost use Rattle.tera_program_parts.specs.Markers.{IsUnfit};
-ghost use Rattle.tera_exchange.specs.Serving.{Takes, Publishes, PublishesAll, Rests, IsLoaded, IsUnloaded, AreKnownGiven, AreKnownGivenInPart, AreLoaded, AreLoadedInPart, AreLibrariesGiven, AreLibrariesGivenInPart, AreListed, AreListedGiven, AreSomeGiven, AreSomeGivenInPart, AreListedGivenInPart, IsFolderGiven, IsFolderGivenInPart, IsOpenGiven, IsOpenGivenInPart, extensions, extensions_in, libraries_in, AreGiven, AreGivenInPart, AreGivenAnew, AreGivenAnewInPart, AreNamesSaid, IsNameSaid, IsGivenInPart, Gives, IsNew, IsTalking, IsWaiting, IsServedBy, EndsAsServed, AreFit, AreSet, is_early};
+ghost use Rattle.tera_exchange.specs.Serving.{Takes, Publishes, PublishesAll, Rests, IsLoaded, IsUnloaded, AreKnownGiven, AreKnownGivenInPart, AreLoaded, AreLoadedInPart, AreLibrariesGiven, AreLibrariesGivenInPart, AreListed, AreListedGiven, AreSomeGiven, AreSomeGivenInPart, AreListedGivenInPart, IsFolderGiven, IsFolderGivenInPart, IsOpenGiven, IsOpenGivenInPart, extensions, extensions_in, libraries_for, AreGiven, AreGivenInPart, AreGivenAnew, AreGivenAnewInPart, AreNamesSaid, IsNameSaid, IsGivenInPart, Gives, IsNew, IsTalking, IsWaiting, IsServedBy, EndsAsServed, AreFit, AreSet, is_early};
 ghost use Rattle.tera_server.specs.Naming.{OnlyNames};
 ghost use Rattle.tera_editor.specs.Sites.{NoneDue, due_of_sites, used_view};
 ghost use Rattle.tera_server.specs.States.{NeedsChanged, needed_view, needed_of};
@@ -326,8 +326,8 @@ fn come_to_rest<F: Files + Input + AllocGlobal + Clone + Drop, W: Write>(
     }
 }
 
-// Publishes findings. If it is not known of some names whether there is a file, that is set first. If an allocation for
-// that fails, findings are published all the same.
+// Publishes findings. If it is not known of some names whether there is a file, that is set first. If this fails to
+// allocate, findings are published all the same.
 fn publish<F: Files + Input + AllocGlobal>(
     files: &F,
     server: &mut Server,
@@ -502,7 +502,7 @@ fn libraries<F: Files + AllocGlobal + Clone + Drop>(
     server: &Server,
     folder: &str,
 ) -> Result<Found, AllocError>
-    ensures { IfOk result (λ found. AreListed (extensions_in server.now folder.now) (libraries_in server.now folder.now)
+    ensures { IfOk result (λ found. AreListed (extensions_in server.now folder.now) (libraries_for server.now folder.now)
         (map string_bytes found.files.items)) }
 {
     match server.settings_for(folder) {

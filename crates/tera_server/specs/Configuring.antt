@@ -82,7 +82,7 @@ changes_library s folder found n =
 -- only faults are reported of a library
 unfoldable pub is_due_by_library : Server → List ℕ → FoundSettings → List ℕ → Bool
 is_due_by_library s folder found n =
-    (changes_library s folder found n || (is_inside folder n && is_in_library s.settings n)) && not (length (reported_of_name s.workspace n) == 0)
+    not (length (reported_of_name s.workspace n) == 0) && (changes_library s folder found n || (is_inside folder n && is_in_library s.settings n))
 
 -- the site then, by that before; nothing is known of its documents and names yet
 abbrev pub site_below : Option (List ℕ) → Option SitedVal

@@ -24,8 +24,8 @@ AreBetween s names faults = AreFaultsFor s.settings (map string_bytes s.folders.
 
 -- What is reported now is published, with the findings on names and those between other markers: for the documents that
 -- were to be published, for those whose names of templates mean something else than before, and for those with other
--- findings than before, once for each. The sites by which names are judged are what the documents say now, with the names of which there may be files;
--- and of each name that is missing the program said that there is no file.
+-- findings than before, once for each. The sites by which names are judged are what the documents say now, with the
+-- names of which there may be files; and of each name that is missing the program said that there is no file.
 pub record ArePublished (s t : Server) (old now : Outgoing) : Type 0 where
   pub settled : IsKept s.workspace → IsSettled t.workspace
   pub read : IsKept s.workspace → AreRead t.workspace

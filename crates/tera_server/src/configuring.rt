@@ -190,9 +190,12 @@ impl Server {
     fn changes_library(&self, folder: &str, found: &FoundSettings, name: &str) -> bool
         ensures { result ≡ changes_library self.now folder.now found.now name.now }
     {
+        if self.editor.of(name).is_none() {
+            return false;
+        }
         let before = folder_of(self.settings.libraries_in(folder), name);
         let then = folder_of(self.libraries_by(folder, found), name);
-        self.editor.of(name).is_some() && before.is_some() != then.is_some()
+        before.is_some() != then.is_some()
     }
 
     // Whether the document has findings that may be reported as those of a library now, or not be any more: the editor
@@ -202,9 +205,9 @@ impl Server {
     fn is_due_by_library(&self, folder: &str, found: &FoundSettings, name: &str) -> bool
         ensures { result ≡ is_due_by_library self.now folder.now found.now name.now }
     {
-        (self.changes_library(folder, found, name)
-            || is_inside(folder, name) && self.is_in_library(name))
-            && !self.workspace.reported(name).is_empty()
+        !self.workspace.reported(name).is_empty()
+            && (self.changes_library(folder, found, name)
+                || is_inside(folder, name) && self.is_in_library(name))
     }
 
     fn due_by_library(

@@ -46,6 +46,7 @@ impl Server {
 
     /// Files may have come or gone: each name that templates use and none has is due again.
     pub fn look_again(&mut self)
+        ensures same { self.new ≡ record self.old { sites = self.new.sites } }
         ensures only { OnlyNames self.old self.new }
         ensures around { AreAround [] self.old.sites self.new.sites }
         ensures due { AreDueAgain self.old.sites self.new.sites }

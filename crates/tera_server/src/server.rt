@@ -476,8 +476,8 @@ impl Server {
         Ok(due)
     }
 
-    // Publishes the rest of what `settle` does, by the texts that were read last. What was not published in time is among
-    // what was edited.
+    // Publishes, as `settle` does, by the texts that were read last. What was not published in time is among what was
+    // edited.
     fn publish(&mut self, alloc: Global, out: &mut Outbox) -> Result<(), AllocError>
         requires { unpublished_of self.old ≡ [] }
         ensures published { OnOk result (ArePublishedAsRead self.old self.new out.old out.new) }
