@@ -7,17 +7,12 @@ use Rattle.tera_templates.specs.Templates.{definitions_of, shows_in}
 use Rattle.tera_rules.specs.Judged.{KnownVal}
 use Rattle.tera_check.specs.Named.{known_at, defined_from, defined_in, defined_by, first_named, or_else}
 use Rattle.tera_templates.specs.declared.templates.Template.{Template}
+use Rattle.tera_check.proofs.CatalogueLemmas.{more_known}
 use Rattle.tera_workspace.specs.Beside.{AreAlikeBut, AreAlikeButIfAny}
 use Rattle.tera_workspace.specs.Heads.{definition_named, HaveOneHeadIfAny, HaveOneHeadIn}
 
-or_cond : (b : Bool) (k : KnownVal) (rest more : Option KnownVal) → or_else (cond b (Some k) rest) more ≡ cond b (Some k) (or_else rest more)
-or_cond true k rest more = refl
-or_cond false k rest more = refl
-
 pub named_append : (n : List ℕ) (ks js : List KnownVal) → first_named n (ks ++ js) ≡ or_else (first_named n ks) (first_named n js)
-named_append n [] js = refl
-named_append n (k ∷ ks) js =
-    ap (cond (bytes_eq k.definition.name n) (Some k)) (named_append n ks js) ∙ sym (or_cond (bytes_eq k.definition.name n) k (first_named n ks) (first_named n js))
+named_append n ks js = more_known n None (first_named n ks) (first_named n (ks ++ js)) ks js refl refl
 
 -- the first component of a name in a template is the first definition of that name
 abbrev pub IsFirst : ℕ → Template → Option Definition → Option KnownVal → Type 0

@@ -1,6 +1,6 @@
 //! The components that documents define, by their names.
 
-ghost use Rattle.std.specs.Prelude.{◌≡◌, ◌∷◌, [], ℕ, List, true, IfOk, OnOk};
+ghost use Rattle.std.specs.Prelude.{◌≡◌, ℕ, List, true, IfOk, OnOk};
 ghost use Rattle.std.specs.Option.{option_map};
 ghost use Rattle.tera_rules.specs.Judged.{known_view};
 ghost use Rattle.tera_check.specs.Named.{known_in, defined_in, defined_by, first_named, or_else};
@@ -10,7 +10,9 @@ ghost use Rattle.tera_workspace.specs.Names.{contains_name};
 use crate::judged::Judged;
 use std::alloc::{AllocError, Global};
 use std::collections::{BTreeMap, BTreeSet};
-use tera_check::{Catalogue, Known, Template, definitions_of, known_at};
+use tera_check::{
+    Catalogue, Known, Template, add_definitions, add_known, definitions_of, known_at,
+};
 
 /// The component of this name in the first document that defines one.
 pub(crate) fn first_known<'a>(all: &'a Vec<Judged>, name: &str) -> Option<Known<'a>>
@@ -33,24 +35,9 @@ pub(crate) fn catalogue_of(alloc: Global, all: &Vec<Judged>) -> Result<Catalogue
 {
     let mut catalogue = BTreeMap::new(alloc);
     for (number, judged) in all.iter().enumerate() {
-        add_all(&mut catalogue, number, &judged.template)?;
+        add_definitions(&mut catalogue, number, &judged.template)?;
     }
     Ok(catalogue)
-}
-
-// Adds the components that the template defines, except those whose names the catalogue has.
-fn add_all<'a>(
-    catalogue: &mut Catalogue<'a>,
-    number: usize,
-    template: &'a Template,
-) -> Result<(), AllocError>
-    ensures { OnOk result ((n : List ℕ) → known_in catalogue.new n
-        ≡ or_else (known_in catalogue.old n) (first_named n (defined_in number template.now))) }
-{
-    for (at, definition) in definitions_of(template).iter().enumerate() {
-        add(catalogue, known_at(number, template, at, definition))?;
-    }
-    Ok(())
 }
 
 /// The components of these names, each from the first document that defines one.
@@ -81,21 +68,8 @@ fn add_template<'a>(
 {
     for (at, definition) in definitions_of(template).iter().enumerate() {
         if needed.contains(definition.name.as_str()) {
-            add(catalogue, known_at(number, template, at, definition))?;
+            add_known(catalogue, known_at(number, template, at, definition))?;
         }
     }
-    Ok(())
-}
-
-// Adds the component, unless there is one of its name.
-fn add<'a>(catalogue: &mut Catalogue<'a>, known: Known<'a>) -> Result<(), AllocError>
-    ensures { OnOk result ((n : List ℕ) → known_in catalogue.new n
-        ≡ or_else (known_in catalogue.old n) (first_named n (known_view known.entry ∷ []))) }
-{
-    let name = known.definition.name.as_str();
-    if catalogue.contains_key(name) {
-        return Ok(());
-    }
-    catalogue.insert(known.definition.name.clone()?, known)?;
     Ok(())
 }

@@ -10,4 +10,4 @@ loop-number-preserved c = λ n.
     let one = c.judged-item.result in
     let within : number < length all = omega (arith, ap length c.deref-judged-items.ensures.value) in
     let is : one ≡ get_or all number one = cc in
-    document_next n all number one (known_in c.loop-number.catalogue n) _ _ within is (c.loop-number.invariant n) (c.in_ok-add_all.ensures n)
+    document_next n all number one (known_in c.loop-number.catalogue n) _ _ within is (c.loop-number.invariant n) (c.in_ok-add_definitions.ensures n)
