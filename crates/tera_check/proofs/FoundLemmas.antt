@@ -1,5 +1,5 @@
 -- What is found in templates, one after another.
-use Rattle.std.proofs.Common.{◌≡◌, ◌<◌, ◌≤◌, ◌+◌, ℕ, suc, List, [], ◌∷◌, ◌++◌, Bool, length, map, Option, Result, Ok, Err, IfOk, Vec, Global, subst, arith}
+use Rattle.std.proofs.Common.{◌≡◌, ◌<◌, ◌+◌, ℕ, suc, List, [], ◌∷◌, ◌++◌, Bool, length, map, Option, Result, Ok, Err, IfOk, Vec, Global, subst, arith}
 use Rattle.std.specs.List.Sorted.{IsPermutation}
 use Rattle.tera_check.specs.Due.{due_findings}
 use Rattle.tera_templates.specs.FaultFindings.{AreFaultsOf}
@@ -38,8 +38,3 @@ module _ (known : List ℕ → Option KnownVal) (open_text : Bool) (checked : �
     of_library = λ past. absurd (omega (arith, within, past));
   }
   found_of_checked number t (Err e) within ordered found = tt
-
-  pub found_of_library : {E : Type 0} (number : ℕ) (t : Template) (r : Result (Vec Finding Global) E) → checked ≤ number → IfOk r (λ v. IsInOrder v.items) →
-      IfOk r (λ v. AreFaultsOf t (map finding_view v.items)) → IfOk r (λ v. IsFoundOf known open_text checked number t v.items)
-  found_of_library number t (Ok v) past ordered faults = record { in_order = ordered; found = λ within. absurd (omega (arith, within, past)); of_library = λ _. faults }
-  found_of_library number t (Err e) past ordered faults = tt

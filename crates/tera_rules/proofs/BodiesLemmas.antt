@@ -8,9 +8,7 @@ use Rattle.tera_tree.specs.Tree.{Definition}
 use Rattle.tera_tree.specs.View.{definition_view}
 use Rattle.tera_tree.specs.declared.ast.ComponentDefinition.{ComponentDefinition}
 use Rattle.tera_tree.specs.declared.parts.Part.{Part}
-use Rattle.tera_ast.specs.View.{node_view, nodes_view}
-use Rattle.tera_ast.specs.declared.ast.Node.{Node}
-use Rattle.tera_rules.specs.Bodies.{is_blank_body, is_blank_node, is_hidden_in, may_show, shows_body}
+use Rattle.tera_rules.specs.Bodies.{is_hidden_in, may_show, shows_body}
 use Rattle.tera_rules.specs.Within.{all_parts}
 use Rattle.tera_rules.proofs.RulesLemmas.{last_part}
 
@@ -67,19 +65,3 @@ hidden_kept n d before shows = kept (bytes_eq d.name n) before ∙ sym (ap (λ b
     kept false false = refl
 
 -- ---- a body of white space, node by node
-
-blank_more : (ns : List Node) (at : ℕ) (n : Node) (all : Bool) → at < length ns → n ≡ get_or ns at n → is_blank_body (nodes_view (drop at ns)) ≡ all
-    → (is_blank_node (node_view n) && is_blank_body (nodes_view (drop (suc at) ns))) ≡ all
-blank_more ns at n all inside is held = sym (ap (λ ms. is_blank_body (nodes_view ms)) (drop_next ns at n inside is)) ∙ held
-
-pub blank_next : (ns : List Node) (at : ℕ) (n : Node) (all : Bool) → at < length ns → n ≡ get_or ns at n → is_blank_body (nodes_view (drop at ns)) ≡ all
-    → is_blank_node (node_view n) ≡ true → is_blank_body (nodes_view (drop (at + 1) ns)) ≡ all
-blank_next ns at n all inside is held blank =
-    let next : suc at ≡ at + 1 = omega arith in
-    subst (λ k. is_blank_body (nodes_view (drop k ns)) ≡ all) next
-    (sym (ap (λ b. b && is_blank_body (nodes_view (drop (suc at) ns))) blank) ∙ blank_more ns at n all inside is held)
-
-pub not_blank : (ns : List Node) (at : ℕ) (n : Node) (all : Bool) → at < length ns → n ≡ get_or ns at n → is_blank_body (nodes_view (drop at ns)) ≡ all
-    → is_blank_node (node_view n) ≡ false → false ≡ all
-not_blank ns at n all inside is held other =
-    sym (ap (λ b. b && is_blank_body (nodes_view (drop (suc at) ns))) other) ∙ blank_more ns at n all inside is held

@@ -24,9 +24,6 @@ number_from at (m ∷ ms) n = cond (is_name m n) (Some at) (number_from (suc at)
 abbrev pub site_with : List (Option (List ℕ)) → List PageVal → SiteVal
 site_with names pages = record { named = number_from 0 names; pages = pages }
 
-abbrev pub site_of : List (Option (List ℕ)) → List Template → SiteVal
-site_of names ts = site_with names (map page_of ts)
-
 -- ---- where the names of a page lead
 
 abbrev pub if_any : {X : Type 0} → Option X → List X

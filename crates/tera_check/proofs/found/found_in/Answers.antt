@@ -1,5 +1,5 @@
 use Rattle.tera_check.specs.Named.{known_in}
-use Rattle.tera_check.proofs.FoundLemmas.{found_of_checked, found_of_library}
+use Rattle.tera_check.proofs.FoundLemmas.{found_of_checked}
 use Rattle.tera_check.proofs.found.found_in.Goals as goal
 
 pub returns-then-number-checked : goal.returns-then-number-checked
