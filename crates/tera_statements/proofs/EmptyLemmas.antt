@@ -1,20 +1,19 @@
 -- Tokens of which none is refused: empty texts.
-use Rattle.std.proofs.Common.{◌≡◌, ℕ, zero, suc, Bool, true, List, [], Option, Some, None, refl, sym, ap, subst, ◌∙◌}
-use Rattle.std.proofs.lemmas.Option.{none-some, same_Some}
+use Rattle.std.proofs.Common.{◌≡◌, ℕ, zero, suc, true, List, [], Option, Some, None, refl, sym, ap, subst, ◌∙◌}
+use Rattle.std.proofs.lemmas.Option.{none-some}
 use Rattle.tera_base.specs.declared.utils.Span.{Span}
 use Rattle.tera_lexer.specs.code.Cursors.{Passes, Position, is_end}
 use Rattle.tera_lexer.specs.grammar.Tokens.{Ended, Failed, Items, Token}
 use Rattle.tera_grammar.specs.Reads.{found, stopped}
 use Rattle.tera_grammar.specs.statements.Expressions.{Limits}
-use Rattle.tera_grammar.specs.statements.Grammar.{Item, Path, Single, Text}
+use Rattle.tera_grammar.specs.statements.Grammar.{Item, Path}
 use Rattle.tera_grammar.specs.statements.Reading.Meeting.{Seen}
-use Rattle.tera_grammar.specs.statements.Output.{AddsNothing, added_by}
 use Rattle.tera_grammar.specs.statements.Reading as reading
 use Rattle.tera_grammar.specs.statements.Reading.Phases as phases
 use Rattle.tera_grammar.specs.statements.Reading.{Place, Reader, Reads, step}
 use Rattle.tera_grammar.specs.statements.Reading.Loops.{Silent, turn}
 use Rattle.tera_grammar.specs.statements.Reading.TagParts.{front, front_at}
-use Rattle.tera_statements.specs.Items.{AreEmptyTexts}
+use Rattle.tera_statements.specs.Items.{AreEmptyTexts, BeginWithoutText}
 use Rattle.tera_tags.specs.Kinds.{kind_of}
 use Rattle.tera_expect.specs.Taking.{GoesOn}
 use Rattle.tera_tags.specs.declared.fronts.Front.{Front}
@@ -51,22 +50,17 @@ module _ (l : Limits) (self : Reader) (path : Path) (seen : Seen) where
   unfolding step
   holds_nothing ts text span us q h = none-some _ (sym (ap first_of h))
 
-  holds_item : (in_loop : Bool) (ts : Items) (text : List ℕ) (span : Span) (us : Items) (i : Item) (p : Place) → text ≡ [] → step l self path seen ts (reading.TagParts.Holds text span us) ≡ found (Some i, p) → added_by in_loop i ≡ AddsNothing
-  unfolding step
-  holds_item in_loop ts text span us i p none h =
-      ap (added_by in_loop) (sym (same_Some _ _ (ap first_of h))) ∙ ap (λ t. added_by in_loop (Single (Text t span))) none
-
   pub empty_ends : (ts : Items) (q : Place) → AreEmptyTexts ts → step l self path seen ts (front ts) ≡ found (None, q) → is_end ts ≡ true
   empty_ends Ended q empty h = refl
   empty_ends (Failed text span) q empty h = absurd empty
   empty_ends (Token t span items) q empty h = absurd (holds_nothing (Token t span items) [] span items q (subst (λ u. step l self path seen (Token t span items) (front_at u span items) ≡ found (None, q)) empty.0 h))
 
-  pub empty_adds : (in_loop : Bool) (ts : Items) (i : Item) (p : Place) → AreEmptyTexts ts → step l self path seen ts (front ts) ≡ found (Some i, p) → added_by in_loop i ≡ AddsNothing
+  -- none of them is an item but a text
+  pub no_item : (ts : Items) (i : Item) (p : Place) → AreEmptyTexts ts → BeginWithoutText ts → step l self path seen ts (front ts) ≡ found (Some i, p) → ⊥
   unfolding step
-  empty_adds in_loop Ended i p empty h = absurd (none-some _ (ap first_of h))
-  empty_adds in_loop (Failed text span) i p empty h = absurd empty
-  empty_adds in_loop (Token t span items) i p empty h =
-      holds_item in_loop (Token t span items) [] span items i p refl (subst (λ u. step l self path seen (Token t span items) (front_at u span items) ≡ found (Some i, p)) empty.0 h)
+  no_item Ended i p empty none h = none-some _ (ap first_of h)
+  no_item (Failed text span) i p empty none h = empty
+  no_item (Token t span items) i p empty none h = none (sym (ap (λ u. kind_of (front_at u span items)) empty.0))
 
 -- what is silent may be in each phase
 pub silent_turns : (phase : phases.Phase) → turn phase Silent ≡ None → ⊥

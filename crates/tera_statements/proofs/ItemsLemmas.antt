@@ -20,42 +20,6 @@ use Rattle.tera_tags.specs.declared.fronts.Front.TheVariants as fronts
 use Rattle.tera_tags.specs.declared.fronts.Opener.{Opener}
 use Rattle.tera_tags.specs.declared.fronts.Closer.{Closer}
 
--- a text comes next
-pub record HoldsText (ts : Items) : Type 0 where
-  pub text : List ℕ
-  pub span : Span
-  pub following : Items
-  pub tokens : ts ≡ Token (toks.Content text) span following
-  pub is : front ts ≡ reading.Holds text span following
-
-holds_by : (ts : Items) (fr : reading.Front) → front ts ≡ fr → FrontOf ts fr → fronts.Holds ≡ kind_of fr → HoldsText ts
-holds_by ts (reading.Holds text span us) is tokens h = record { text = text; span = span; following = us; tokens = tokens; is = is }
-holds_by ts reading.Ends is tokens h = cc
-holds_by ts (reading.Closes c start first us) is tokens h = cc
-holds_by ts (reading.Shows start us) is tokens h = cc
-holds_by ts (reading.Opens o start first us) is tokens h = cc
-holds_by ts reading.Wrong is tokens h = cc
-
-pub holds_text : (ts : Items) → fronts.Holds ≡ kind_of (front ts) → HoldsText ts
-holds_text ts h = holds_by ts (front ts) refl (front_is ts) h
-
--- the text was taken
-pub text_taken : (ts us : Items) (t : Tok) (s : Span) → HoldsText ts → ts ≡ Token t s us
-    → (text : List ℕ) × (span : Span) × (t ≡ toks.Content text) × (front ts ≡ reading.Holds text span us)
-text_taken ts us t s there took =
-    let same = sym took ∙ there.tokens in (
-      there.text,
-      there.span,
-      same_token _ _ _ _ _ _ same,
-      there.is ∙ ap (reading.Holds there.text there.span) (sym (same_rest _ _ _ _ _ _ same)),
-    )
-  where
-    same_token : (t u : Tok) (s r : Span) (us vs : Items) → Token t s us ≡ Token u r vs → t ≡ u
-    same_token t u s r us vs h = cc
-
-    same_rest : (t u : Tok) (s r : Span) (us vs : Items) → Token t s us ≡ Token u r vs → us ≡ vs
-    same_rest t u s r us vs h = cc
-
 -- a variable tag comes next
 pub record ShowsTag (ts : Items) : Type 0 where
   pub start : Edge

@@ -6,7 +6,7 @@ use Rattle.tera_ast.specs.View.{node_view}
 use Rattle.tera_tree.specs.View.{definition_view}
 use Rattle.tera_ast.specs.declared.ast.Node.{Node}
 use Rattle.tera_grammar.specs.statements.Grammar.{Item, Path, Body, Branches, Else, in_loop}
-use Rattle.tera_grammar.specs.statements.Output.{Adds, AddsNothing, AddsNode, AddsParent, AddsDefinition, added_by, branch_output, else_output, output}
+use Rattle.tera_grammar.specs.statements.Output.{Adds, AddsNode, AddsParent, AddsDefinition, added_by, branch_output, else_output, output}
 use Rattle.tera_grammar.specs.statements.TagParts.{Edge}
 use Rattle.tera_grammar.specs.statements.Reading.{Place, at, Reads}
 use Rattle.tera_grammar.specs.statements.Reading.Meeting.{Seen}
@@ -20,7 +20,6 @@ use Rattle.tera_tags.specs.declared.names.Names.{Names}
 use Rattle.tera_statements.specs.declared.around.Around.{Around}
 
 abbrev pub added_view : Added → Adds
-added_view added.Nothing = AddsNothing
 added_view (added.Node n) = AddsNode (node_view n)
 added_view (added.Parent s) = AddsParent (string_bytes s)
 added_view (added.Definition d) = AddsDefinition (definition_view d)

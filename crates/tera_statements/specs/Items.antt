@@ -3,7 +3,7 @@ use Rattle.std.specs.Prelude.{◌≡◌, ◌++◌, ℕ, List, [], Option, Some, 
 use Rattle.std.specs.Borrow.{Bor}
 use Rattle.tera_base.specs.declared.errors.Error.{Error}
 use Rattle.tera_lexer.specs.code.Cursors.{Position}
-use Rattle.tera_lexer.specs.grammar.Tokens.{Items, Ended, Failed, Token, Tok, Content}
+use Rattle.tera_lexer.specs.grammar.Tokens.{Items, Ended, Failed, Token, Content}
 use Rattle.tera_ast.specs.Tree.{Stmt}
 use Rattle.tera_grammar.specs.statements.Expressions.{Limits}
 use Rattle.tera_grammar.specs.statements.Output.{added_by, added_nodes}
@@ -18,6 +18,8 @@ use Rattle.tera_statements.specs.Around.{Represents}
 use Rattle.tera_expect.specs.Taking.{Took}
 use Rattle.tera_statements.specs.declared.added.Added.{Added}
 use Rattle.tera_statements.specs.declared.around.Around.{Around}
+use Rattle.tera_tags.specs.Kinds.{kind_of}
+use Rattle.tera_tags.specs.declared.fronts.Front.TheVariants as fronts
 
 -- the next item of a body, or none
 abbrev pub GivesStep : Path → Result (Option Added) Error → Place → Place → Reads (Option Item) → Type 0
@@ -41,15 +43,7 @@ GoesByItem (Ok None) old new = new ≡ old
 GoesByItem (Ok (Some a)) old new = Took old new
 GoesByItem (Err e) old new = Unit {0}
 
--- the text of a token that is one
-abbrev pub text_in : Tok → List ℕ
-text_in (Content text) = text
-text_in t = []
-
--- a text, and an expression that is shown, which tokens with this front begin with
-abbrev pub GivesText : Result Added Error → Items → Items → Type 0
-GivesText r new old = (l : Limits) (self : Reader) (path : Path) (seen : Seen) → GivesItem (in_loop path) r (at seen new) (step l self path seen old (front old))
-
+-- an expression that is shown, which tokens with this front begin with
 abbrev pub GivesShown : Limits → Around → Result Added Error → Items → Items → Type 0
 GivesShown l around r new old = (self : Reader) (path : Path) → Represents path around → (seen : Seen) → GivesItem (in_loop path) r (at seen new) (step l self path seen old (front old))
 
@@ -63,7 +57,11 @@ AreEmptyTexts (Token t span items) = (t ≡ Content []) × AreEmptyTexts items
 abbrev pub Enters : Opener → Items → Position → Type 0
 Enters o old new = (start : Edge) × (front old ≡ Opens o start new.span new.left)
 
--- the text that came next was taken, or nothing
+-- the tokens do not begin with a text
+abbrev pub BeginWithoutText : Items → Type 0
+BeginWithoutText items = fronts.Holds ≡ kind_of (front items) → ⊥
+
+-- the text that came next was taken, or none comes next
 abbrev pub EatsText : Option (Bor (List ℕ)) → Position → Position → Type 0
 EatsText (Some text) old new = (front old.left ≡ Holds text.now new.span new.left) × Took old new
-EatsText None old new = new ≡ old
+EatsText None old new = (new ≡ old) × BeginWithoutText new.left

@@ -11,24 +11,12 @@ use std::alloc::Global;
 use tera_base::Error;
 use tera_tree::{ComponentDefinition, Node};
 
-/// What an item adds.
+/// What an item adds that is not a text.
 #[derive(Drop)]
 pub(crate) enum Added {
-    Nothing,
     Node(Node),
     Parent(String),
     Definition(ComponentDefinition),
-}
-
-impl Added {
-    /// Whether it is a definition, a text of white space, or nothing.
-    pub fn is_blank(&self) -> bool {
-        match self {
-            Added::Nothing | Added::Definition(_) => true,
-            Added::Node(Node::Content(text)) => is_blank(text.as_str()),
-            _ => false,
-        }
-    }
 }
 
 /// Whether a text is of white space alone.
@@ -64,7 +52,7 @@ pub(crate) fn push_node(nodes: &mut Vec<Node>, added: Added) -> Result<(), Error
             push(nodes, node)?;
             Ok(())
         }
-        Added::Nothing | Added::Parent(_) | Added::Definition(_) => Ok(()),
+        Added::Parent(_) | Added::Definition(_) => Ok(()),
     }
 }
 

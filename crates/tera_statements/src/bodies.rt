@@ -3,7 +3,7 @@
 ghost use Rattle.std.specs.Prelude.{◌≡◌, ◌∷◌, IfErr, IfOk, false, is_none, map};
 ghost use Rattle.tera_grammar.specs.statements.Grammar.{Path, in_loop};
 ghost use Rattle.tera_statements.specs.Adding.{GivesHere, IsBody, here};
-ghost use Rattle.tera_statements.specs.Items.{GivesNode, GoesByItem};
+ghost use Rattle.tera_statements.specs.Items.{BeginWithoutText, GivesNode, GoesByItem};
 ghost use Rattle.tera_statements.specs.Around.{Represents, context_of};
 ghost use Rattle.tera_tags.specs.Settings.{bodies_under, limits_under};
 ghost use Rattle.tera_expect.specs.Taking.{GoesOn, Refuses, RefusesIn};
@@ -87,7 +87,7 @@ fn next_node<'p>(
     }
 }
 
-// Takes what the next item of a body adds, where one is there, and returns the same.
+// Takes what the next item of a body adds, where one is there, which is not a text, and returns the same.
 #[cycle(bodies)]
 #[tactic(auto, using(tera_tags::proofs::RefusalLemmas::memory_inside))]
 fn item_node<'p>(
@@ -99,7 +99,8 @@ fn item_node<'p>(
     extension: Extension<'p>,
     depth: usize,
 ) -> Result<Option<Extension<'p>>, Error>
-    requires { is_none around.now.innermost ≡ false }
+    requires inner { is_none around.now.innermost ≡ false }
+    requires text { BeginWithoutText cursor.old.left }
     ensures gives { (path : Path) → Represents path around.now →
         GivesNode (limits_under setting.now) depth path result (map node_view nodes.new.items)
         (map node_view nodes.old.items) (here names.new cursor.new) (here names.old cursor.old) }
@@ -109,7 +110,6 @@ fn item_node<'p>(
     let Some(added) = item(setting, cursor, names, around, extension, depth)? else {
         return Ok(None);
     };
-    let later = extension.later(&added);
     push_node(nodes, added)?;
-    Ok(Some(later))
+    Ok(Some(extension.later()))
 }

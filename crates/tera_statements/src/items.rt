@@ -1,13 +1,11 @@
 //! The items of bodies.
 
-ghost use Rattle.std.specs.Prelude.{◌≡◌, [], IfErr, IfOk, is_none, true};
+ghost use Rattle.std.specs.Prelude.{◌≡◌, IfErr, IfOk, is_none, true};
 ghost use Rattle.tera_base.specs.Errors.{IsMemory};
-ghost use Rattle.tera_grammar.specs.statements.Output.{text_adds};
 ghost use Rattle.tera_grammar.specs.statements.Reading.{tag_of};
 ghost use Rattle.tera_grammar.specs.statements.Reading.TagParts.{front};
-ghost use Rattle.tera_lexer.specs.code.Seen.{seen};
-ghost use Rattle.tera_statements.specs.Adding.{AddsBy, added_view, here, seen_of};
-ghost use Rattle.tera_statements.specs.Items.{AreEmptyTexts, EatsText, Enters, GivesNext, GivesShown, GivesText, GoesByItem, text_in};
+ghost use Rattle.tera_statements.specs.Adding.{AddsBy, here, seen_of};
+ghost use Rattle.tera_statements.specs.Items.{AreEmptyTexts, BeginWithoutText, EatsText, Enters, GivesNext, GivesShown, GoesByItem};
 ghost use Rattle.tera_tags.specs.Kinds.{kind_of, opener_of};
 ghost use Rattle.tera_statements.specs.Around.{known_at};
 ghost use Rattle.tera_tags.specs.Knowing.{RefusesInKnowing, RefusesKnowing};
@@ -23,9 +21,7 @@ use crate::captures::{call, section, set, shown_node};
 use crate::conditions::condition;
 use crate::loops::for_loop;
 use crate::simple::{Extension, Jump, extends, include, read_jump};
-use std::alloc::{AllocError, Global};
 use tera_base::Error;
-use tera_expect::take;
 use tera_lexer::{Cursor, Token};
 use tera_tags::fronts::{Front, Opener};
 use tera_tags::names::Names;
@@ -33,7 +29,7 @@ use tera_tags::settings::Setting;
 use tera_tags::tag_parts::{pass, tag_expression, unknown_tag, variable_end};
 use tera_tree::Node;
 
-/// Reads the next item of a body, where one is there.
+/// Reads the next item of a body, where one is there. It is not a text: the callers take texts themselves.
 #[cycle(bodies)]
 #[tactic(auto, using(tera_expect::proofs::TakingLemmas::took_all, tera_tags::proofs::KnowingLemmas::items_knowing))]
 pub(crate) fn item(
@@ -44,7 +40,8 @@ pub(crate) fn item(
     extension: Extension<'_>,
     depth: usize,
 ) -> Result<Option<Added>, Error>
-    requires { is_none around.now.innermost ≡ true → is_free extension ≡ true }
+    requires free { is_none around.now.innermost ≡ true → is_free extension ≡ true }
+    requires text { BeginWithoutText cursor.old.left }
     ensures gives { GivesNext (limits_under setting.now) depth around.now result
         (here names.new cursor.new) (here names.old cursor.old) }
     ensures refusal { IfErr result
@@ -55,7 +52,6 @@ pub(crate) fn item(
     match Front::at(cursor) {
         Front::Ends => Ok(None),
         Front::Closes(_) => Ok(None),
-        Front::Holds => Ok(Some(text(cursor)?)),
         Front::Shows => Ok(Some(variable_tag(setting, cursor, around)?)),
         Front::Opens(opener) => {
             enter(cursor, opener)?;
@@ -63,6 +59,7 @@ pub(crate) fn item(
             Ok(Some(added))
         }
         Front::Wrong => Err(unknown_tag(cursor)),
+        Front::Holds => unreachable!(),
     }
 }
 
@@ -76,41 +73,6 @@ pub(crate) fn eat_text<'a>(cursor: &mut Cursor<'a>) -> Option<&'a str>
     };
     let text = *text;
     if cursor.skip() { Some(text) } else { None }
-}
-
-// A text, which comes next.
-#[tactic(auto, using(tera_tags::proofs::RefusalLemmas::memory_inside))]
-fn text(cursor: &mut Cursor<'_>) -> Result<Added, Error>
-    requires { fronts.Holds ≡ kind_of (front cursor.old.left) }
-    ensures gives { GivesText result cursor.new.left cursor.old.left }
-    ensures refusal { IfErr result (RefusesIn cursor.old cursor.new) }
-    ensures empty { IfErr result (λ _. AreEmptyTexts cursor.old.left → ⊥) }
-    ensures later { IfOk result (λ _. Took cursor.old cursor.new) }
-{
-    let (token, _) = take(cursor)?;
-    Ok(text_added(cursor.alloc(), &token)?)
-}
-
-// What a token adds that is a text.
-fn text_added(alloc: Global, token: &Token<'_>) -> Result<Added, AllocError>
-    ensures adds { IfOk result (λ a. added_view a ≡ text_adds (text_in (seen token.now))) }
-    ensures empty { IfErr result (λ _. text_in (seen token.now) ≡ [] → ⊥) }
-{
-    match token {
-        Token::Content(text) => content(alloc, text),
-        _ => Ok(Added::Nothing),
-    }
-}
-
-// What a text adds: nothing if it is empty.
-fn content(alloc: Global, text: &str) -> Result<Added, AllocError>
-    ensures adds { IfOk result (λ a. added_view a ≡ text_adds text.now) }
-    ensures empty { IfErr result (λ _. text.now ≡ [] → ⊥) }
-{
-    if text.is_empty() {
-        return Ok(Added::Nothing);
-    }
-    Ok(Added::Node(Node::Content(String::from_str(alloc, text)?)))
 }
 
 /// A variable tag, which comes next.

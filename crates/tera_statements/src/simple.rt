@@ -111,10 +111,10 @@ impl<'p> Extension<'p> {
         }
     }
 
-    /// What keeps it after what an item of the body adds.
-    pub fn later(self, added: &Added) -> Extension<'p> {
+    /// What keeps it after an item of the body that is not a text.
+    pub fn later(self) -> Extension<'p> {
         match self {
-            Extension::Free if !added.is_blank() => Extension::Late,
+            Extension::Free => Extension::Late,
             other => other,
         }
     }

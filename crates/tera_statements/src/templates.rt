@@ -3,14 +3,15 @@
 ghost use Rattle.std.specs.Prelude.{◌≡◌, ◌⊎◌, IfErr, IfOk, None, OnOk, []};
 ghost use Rattle.tera_base.specs.Errors.{IsMemory};
 ghost use Rattle.tera_lexer.specs.code.Cursors.{Position};
-ghost use Rattle.tera_grammar.specs.statements.Output.{AddsNothing, text_adds};
+ghost use Rattle.tera_grammar.specs.statements.Output.{text_adds};
 ghost use Rattle.tera_grammar.specs.statements.Reading.{at, step};
 ghost use Rattle.tera_grammar.specs.statements.Reading.Meeting.{Seen};
-ghost use Rattle.tera_grammar.specs.statements.Reading.Loops.{node_weight, turn, weight, with_added};
+ghost use Rattle.tera_grammar.specs.statements.Reading.Loops.{node_weight, text_weight, turn, weight, with_added};
+ghost use Rattle.tera_grammar.specs.statements.Top.{is_blank};
 ghost use Rattle.tera_grammar.specs.statements.Reading.TagParts.{front};
 ghost use Rattle.tera_statements.specs.Adding.{added_view, here};
 ghost use Rattle.tera_tree.specs.Outputs.{output_view};
-ghost use Rattle.tera_statements.specs.Items.{AreEmptyTexts, GivesStep, GoesByItem};
+ghost use Rattle.tera_statements.specs.Items.{AreEmptyTexts, BeginWithoutText, GivesStep, GoesByItem};
 ghost use Rattle.tera_tags.specs.Kinds.{kind_of, opens_extends};
 ghost use Rattle.tera_tags.specs.Known.{located_of};
 ghost use Rattle.tera_tags.specs.Knowing.{RefusesInKnowing};
@@ -61,10 +62,8 @@ fn add(output: &mut ParserOutput, added: Added) -> Result<(), Error>
     ensures added { OnOk result (output_view output.new
         ≡ with_added (output_view output.old) (added_view added)) }
     ensures refusal { IfErr result IsMemory }
-    ensures nothing { IfErr result (λ _. added_view added ≡ AddsNothing → ⊥) }
 {
     match added {
-        Added::Nothing => Ok(()),
         Added::Node(node) => {
             output.nodes.push(node)?;
             Ok(())
@@ -115,7 +114,7 @@ impl Phase {
     }
 
     // The phase after a text, where such a text may be. In most templates each may, after the start.
-    #[tactic(auto, using(crate::proofs::TemplatesLemmas::standalone_text))]
+    #[tactic(auto, using(crate::proofs::TemplatesLemmas::standalone_text, crate::proofs::TemplatesLemmas::weight_text))]
     fn after_text(self, text: &str) -> Option<Phase>
         ensures { phase_if_any result ≡ turn (phase_of self) (weight (text_adds text.now)) }
     {
@@ -131,7 +130,7 @@ fn weigh(added: &Added) -> Weight
     ensures { weight_of result ≡ weight (added_view added.now) }
 {
     match added {
-        Added::Nothing | Added::Definition(_) => Weight::Silent,
+        Added::Definition(_) => Weight::Silent,
         Added::Parent(_) => Weight::Parent,
         Added::Node(node) => node_weight(node),
     }
@@ -142,20 +141,16 @@ fn node_weight(node: &Node) -> Weight
     ensures { weight_of result ≡ node_weight (node_view node.now) }
 {
     match node {
-        Node::Content(text) if is_blank(text.as_str()) => Weight::Silent,
+        Node::Content(text) => text_weight(text.as_str()),
         Node::Block(_) => Weight::Kept,
         _ => Weight::Other,
     }
 }
 
 // What a text is to it.
-#[tactic(auto, using(crate::proofs::TemplatesLemmas::weight_text))]
 fn text_weight(text: &str) -> Weight
-    ensures { weight_of result ≡ weight (text_adds text.now) }
+    ensures { weight_of result ≡ text_weight (is_blank text.now) }
 {
-    if text.is_empty() {
-        return Weight::Silent;
-    }
     if is_blank(text) {
         Weight::Silent
     } else {
@@ -242,7 +237,7 @@ fn text_phase(
     Ok(Some(next))
 }
 
-// Takes what the next item adds, where one is there, and returns the phase after it.
+// Takes what the next item adds, where one is there, which is not a text, and returns the phase after it.
 #[tactic(auto, using(tera_tags::proofs::KnowingLemmas::memory_inside_knowing))]
 fn item_phase(
     setting: &Setting<'_>,
@@ -251,6 +246,7 @@ fn item_phase(
     output: &mut ParserOutput,
     phase: Phase,
 ) -> Result<Option<Phase>, Error>
+    requires { BeginWithoutText cursor.old.left }
     ensures gives { GivesPhase (limits_under setting.now) phase result (output_view output.new)
         (output_view output.old) (here names.new cursor.new) (here names.old cursor.old) }
     ensures refusal { IfErr result
@@ -274,6 +270,7 @@ fn next_item(
     parent: Option<&str>,
     phase: Phase,
 ) -> Result<Option<(Added, Phase)>, Error>
+    requires { BeginWithoutText cursor.old.left }
     ensures gives { GivesTop (limits_under setting.now) phase result (here names.new cursor.new)
         (here names.old cursor.old) }
     ensures refusal { IfErr result
@@ -371,6 +368,7 @@ fn top_item(
     names: &mut Names,
     parent: Option<&str>,
 ) -> Result<Option<Added>, Error>
+    requires { BeginWithoutText cursor.old.left }
     ensures gives { GivesStep [] result (here names.new cursor.new) (here names.old cursor.old)
         (step (limits_under setting.now)
         (bodies_under setting.now (top_depth (limits_under setting.now))) []

@@ -18,13 +18,13 @@ pub bodies::body-next_node-requires : goal.bodies::body-next_node-requires
 bodies::body-next_node-requires t c = (omega arith, c.inside-inside.ensures.inner)
 
 pub bodies::next_node-item_node-requires : goal.bodies::next_node-item_node-requires
-bodies::next_node-item_node-requires t c = (omega arith, c.requires)
+bodies::next_node-item_node-requires t c = (omega arith, (c.requires, c.in-None.ensures.1))
 
 pub bodies::item_node-item-requires : goal.bodies::item_node-item-requires
-bodies::item_node-item-requires t c = (omega arith, λ none. not_both _ none c.requires)
+bodies::item_node-item-requires t c = (omega arith, (λ none. not_both _ none c.requires.inner, c.requires.text))
 
 pub items::item-tag-requires : goal.items::item-tag-requires
-items::item-tag-requires t c = (omega arith, c.requires)
+items::item-tag-requires t c = (omega arith, c.requires.free)
 
 pub bodies::body-returns-then-depth-eq0-clause-gives : goal.bodies::body-returns-then-depth-eq0-clause-gives
 bodies::body-returns-then-depth-eq0-clause-gives t c = bodies.bodies::body-returns-then-depth-eq0-clause-gives t c

@@ -88,13 +88,13 @@ bodies::next_node-returns-in_ok-push_text-in-Some-clause-gives t c = λ path rep
     )
 
 pub bodies::next_node-returns-in-None-clause-gives : goal.bodies::next_node-returns-in-None-clause-gives
-bodies::next_node-returns-in-None-clause-gives t c = rw c.in-None.ensures at c.item_node.ensures.gives
+bodies::next_node-returns-in-None-clause-gives t c = rw c.in-None.ensures.0 at c.item_node.ensures.gives
 
 pub bodies::next_node-returns-in-None-clause-refusal : goal.bodies::next_node-returns-in-None-clause-refusal
-bodies::next_node-returns-in-None-clause-refusal t c = rw c.in-None.ensures at c.item_node.ensures.refusal
+bodies::next_node-returns-in-None-clause-refusal t c = rw c.in-None.ensures.0 at c.item_node.ensures.refusal
 
 pub bodies::next_node-returns-in-None-clause-later : goal.bodies::next_node-returns-in-None-clause-later
-bodies::next_node-returns-in-None-clause-later t c = rw c.in-None.ensures at c.item_node.ensures.later
+bodies::next_node-returns-in-None-clause-later t c = rw c.in-None.ensures.0 at c.item_node.ensures.later
 
 pub bodies::item_node-returns-in_err-added-clause-gives : goal.bodies::item_node-returns-in_err-added-clause-gives
 bodies::item_node-returns-in_err-added-clause-gives t c = λ path represents.
@@ -116,4 +116,4 @@ bodies::item_node-returns-clause-gives t c = λ path represents.
 pub bodies::item_node-returns-in_err-added-clause-refusal : goal.bodies::item_node-returns-in_err-added-clause-refusal
 bodies::item_node-returns-in_err-added-clause-refusal t c =
     let p = err_from_is_err_and c.from_residual.result c.from_residual.ensures.1 in
-    rw (p.1, p.2) (inside_elsewhere _ (located_of c.args.names.now.components) _ _ _ c.requires c.in_err-added.ensures.refusal)
+    rw (p.1, p.2) (inside_elsewhere _ (located_of c.args.names.now.components) _ _ _ c.requires.inner c.in_err-added.ensures.refusal)

@@ -1,4 +1,4 @@
-use Rattle.std.proofs.Common.{◌∙◌, [], false, ap, refl, sym}
+use Rattle.std.proofs.Common.{◌∙◌, [], ap, refl, sym}
 use Rattle.std.proofs.lemmas.Result.{err_from_is_err_and}
 use Rattle.tera_grammar.specs.statements.Reading.{body}
 use Rattle.tera_grammar.specs.statements.Reading.Loops.{with_added}
@@ -8,7 +8,7 @@ use Rattle.tera_tree.specs.Outputs.{output_view}
 use Rattle.tera_statements.specs.Templates.{phase_of, top_depth}
 use Rattle.tera_tags.specs.Known.{located_of}
 use Rattle.tera_tags.proofs.KnowingLemmas.{memory_inside_knowing}
-use Rattle.tera_statements.proofs.EmptyLemmas.{empty_adds}
+use Rattle.tera_statements.proofs.EmptyLemmas.{no_item}
 use Rattle.tera_statements.proofs.TemplatesLemmas.{empty_steps}
 use Rattle.tera_statements.proofs.templates.item_phase.Goals as goal
 
@@ -32,8 +32,8 @@ returns-in_err-add-clause-empty c =
     let p = err_from_is_err_and c.from_residual-in_err-add.result c.from_residual-in_err-add.ensures.1 in
     let l = limits_of c.args.setting.now.limits in
     let (i, read, shows, turned) = rw c.in-Some.is at c.in_ok-added.ensures.gives in
-    rw p.1 (λ empty. c.in_err-add.ensures.nothing (shows ∙ empty_adds l (body (top_depth l) l) [] (seen_of c.args.names.now) false c.args.cursor.now.left i _ empty
-    (sym (empty_steps l (phase_of c.args.phase) (here c.args.names.now c.args.cursor.now) empty) ∙ read)))
+    rw p.1 (λ empty. no_item l (body (top_depth l) l) [] (seen_of c.args.names.now) c.args.cursor.now.left i _ empty c.requires
+    (sym (empty_steps l (phase_of c.args.phase) (here c.args.names.now c.args.cursor.now) empty) ∙ read))
 
 pub returns-in_err-added-clause-refusal : goal.returns-in_err-added-clause-refusal
 returns-in_err-added-clause-refusal c =

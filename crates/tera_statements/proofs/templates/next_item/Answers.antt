@@ -1,4 +1,4 @@
-use Rattle.std.proofs.Common.{◌∙◌, ⊎_elim, [], false, ap, inl, inr, sym}
+use Rattle.std.proofs.Common.{◌∙◌, ⊎_elim, [], ap, inl, inr, sym}
 use Rattle.std.proofs.lemmas.Result.{err_from_is_err_and}
 use Rattle.tera_grammar.specs.statements.Reading.{body}
 use Rattle.tera_grammar.specs.statements.Reading.Loops.{turn, weight}
@@ -7,9 +7,12 @@ use Rattle.tera_expr_parts.specs.Allowed.{limits_of}
 use Rattle.tera_statements.specs.Templates.{top_depth, phase_if_any, phase_of}
 use Rattle.tera_tags.specs.Known.{located_of}
 use Rattle.tera_tags.proofs.KnowingLemmas.{inside_knowing}
-use Rattle.tera_statements.proofs.EmptyLemmas.{empty_adds, silent_turns}
+use Rattle.tera_statements.proofs.EmptyLemmas.{no_item}
 use Rattle.tera_statements.proofs.TemplatesLemmas.{fails_excluded, step_fails, turn_excluded}
 use Rattle.tera_statements.proofs.templates.next_item.Goals as goal
+
+pub top_item-requires : goal.top_item-requires
+top_item-requires c = rw c.in_ok-refuse_extends.ensures.stays c.requires
 
 pub returns-in_err-refuse_extends-clause-gives : goal.returns-in_err-refuse_extends-clause-gives
 returns-in_err-refuse_extends-clause-gives c =
@@ -57,9 +60,7 @@ pub returns-in_default-following-clause-empty : goal.returns-in_default-followin
 returns-in_default-following-clause-empty c = λ empty.
     let l = limits_of c.args.setting.now.limits in
     let (i, read, shows) = rw c.in_ok-refuse_extends.ensures.stays at (rw c.in-Some.is at c.in_ok-added.ensures.gives) in
-    let nothing = empty_adds l (body (top_depth l) l) [] (seen_of c.args.names.now) false c.args.cursor.now.left i _ empty read in
-    let turned = ap (turn (phase_of c.args.phase)) (sym (c.weigh.ensures ∙ ap weight shows)) ∙ sym c.following.ensures ∙ ap phase_if_any c.in_default-following.is in
-    silent_turns (phase_of c.args.phase) (ap (λ a. turn (phase_of c.args.phase) (weight a)) (sym nothing) ∙ turned)
+    no_item l (body (top_depth l) l) [] (seen_of c.args.names.now) c.args.cursor.now.left i _ empty c.requires read
 
 pub returns-in_err-refuse_extends-clause-refusal : goal.returns-in_err-refuse_extends-clause-refusal
 returns-in_err-refuse_extends-clause-refusal c =

@@ -25,13 +25,13 @@ returns-in-Some-clause-later c =
     c.text_phase.ensures.gives c.in-Some.ensures.1
 
 pub returns-in-None-clause-gives : goal.returns-in-None-clause-gives
-returns-in-None-clause-gives c = rw c.in-None.ensures at c.item_phase.ensures.gives
+returns-in-None-clause-gives c = rw c.in-None.ensures.0 at c.item_phase.ensures.gives
 
 pub returns-in-None-clause-refusal : goal.returns-in-None-clause-refusal
-returns-in-None-clause-refusal c = rw c.in-None.ensures at c.item_phase.ensures.refusal
+returns-in-None-clause-refusal c = rw c.in-None.ensures.0 at c.item_phase.ensures.refusal
 
 pub returns-in-None-clause-empty : goal.returns-in-None-clause-empty
-returns-in-None-clause-empty c = rw c.in-None.ensures at c.item_phase.ensures.empty
+returns-in-None-clause-empty c = rw c.in-None.ensures.0 at c.item_phase.ensures.empty
 
 pub returns-in-None-clause-later : goal.returns-in-None-clause-later
-returns-in-None-clause-later c = rw c.in-None.ensures at c.item_phase.ensures.later
+returns-in-None-clause-later c = rw c.in-None.ensures.0 at c.item_phase.ensures.later
