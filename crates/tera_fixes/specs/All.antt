@@ -28,14 +28,14 @@ is_suggestible kinds.RepeatedArgument = true
 is_suggestible _ = false
 
 -- .. and so many more findings may have a suggestion
-abbrev pub is_wanted : ℕ → Kind → Bool
-is_wanted left kind = nat_lt 0 left && is_suggestible kind
+abbrev pub gets_suggestion : ℕ → Kind → Bool
+gets_suggestion left kind = nat_lt 0 left && is_suggestible kind
 
 -- what is suggested for each finding: for the first of such findings, at most so many
 abbrev pub suggested : ContextVal → ℕ → List Finding → List (Option SuggestionVal)
 suggested x left [] = []
 suggested x left (f ∷ fs) =
-    if is_wanted left f.kind then suggestion_of x (finding_view f) ∷ suggested x (left - 1) fs else None ∷ suggested x left fs
+    if gets_suggestion left f.kind then suggestion_of x (finding_view f) ∷ suggested x (left - 1) fs else None ∷ suggested x left fs
 
 -- more of the findings may have a suggestion than get one
 abbrev pub are_too_many : List Finding → Bool

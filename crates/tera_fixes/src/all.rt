@@ -4,7 +4,7 @@ ghost use Rattle.std.specs.Prelude.{◌≡◌, ◌∷◌, ◌++◌, List, filter
 ghost use Rattle.std.specs.Option.{option_map};
 ghost use Rattle.tera_templates.specs.Templates.{tree_of};
 ghost use Rattle.tera_findings.specs.declared.finding.Finding.{Finding as AFinding};
-ghost use Rattle.tera_fixes.specs.All.{AreCallsIn, AreSuggestedIn, are_too_many, is_suggestible, is_wanted, suggested};
+ghost use Rattle.tera_fixes.specs.All.{AreCallsIn, AreSuggestedIn, are_too_many, is_suggestible, gets_suggestion, suggested};
 ghost use Rattle.tera_fixes.specs.Components.{AreMeanings};
 ghost use Rattle.tera_fixes.specs.Names.{component_names};
 ghost use Rattle.tera_fixes.specs.Suggestions.{context_view, suggestion_view};
@@ -107,7 +107,7 @@ fn push_if_left(
         ++ suggested (context_view context.entry) left (finding.now ∷ rest)) }
     ensures kept { AreMeanings (component_names context.entry.catalogue.now) meanings.new }
 {
-    if !is_wanted(left, finding.kind) {
+    if !gets_suggestion(left, finding.kind) {
         suggestions.push(None)?;
         return Ok(left);
     }
@@ -116,8 +116,8 @@ fn push_if_left(
     Ok(left.saturating_sub(1))
 }
 
-fn is_wanted(left: usize, kind: Kind) -> bool
-    ensures { result ≡ is_wanted left kind }
+fn gets_suggestion(left: usize, kind: Kind) -> bool
+    ensures { result ≡ gets_suggestion left kind }
 {
     0 < left && is_suggestible(kind)
 }
