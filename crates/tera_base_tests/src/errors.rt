@@ -116,7 +116,7 @@ fn note(alloc: Global) -> Result<Note, AllocError> {
 }
 
 #[test]
-fn notes_stand_after_a_report(rt: HostRuntime) -> Result<(), Fail> {
+fn notes_follow_a_report(rt: HostRuntime) -> Result<(), Fail> {
     let (mut report, note) = (noted(rt.alloc())?, note(rt.alloc())?);
     report.add_note("there", "base", &Span::default())?;
     assert!(rt; report.notes.len() == 2 && report.notes.last() == Some(&note));

@@ -138,7 +138,7 @@ const LEAST_OF_I64: &str = "-9223372036854775808";
 const MOST_OF_U64: &str = "18446744073709551615";
 
 // For each of the values: the name of its kind, what its tests give, its text, and a part of its `Debug` text.
-const TOLD: [[&str; 4]; 19] = [
+const EXPECTED: [[&str; 4]; 19] = [
     ["undefined", "u", "undefined", "Undefined"],
     ["none", "0", "null", "None"],
     ["bool", "b", "true", "Bool(true)"],
@@ -194,7 +194,7 @@ fn shows(alloc: Global, value: &Value, text: &str, part: &str) -> Result<bool, A
 
 #[test]
 fn kinds_and_texts_of_values(rt: HostRuntime) -> Result<(), Fail> {
-    for (value, [name, letters, text, part]) in values(rt.alloc())?.iter().zip(&TOLD) {
+    for (value, [name, letters, text, part]) in values(rt.alloc())?.iter().zip(&EXPECTED) {
         assert!(rt; answers_as(rt.alloc(), value, name, letters)?, "{name}");
         assert!(rt; shows(rt.alloc(), value, text, part)?, "{text}");
     }

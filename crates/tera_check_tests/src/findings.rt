@@ -75,7 +75,7 @@ fn is_at_the_beginning(finding: &Finding, message: &str) -> bool {
 }
 
 #[test]
-fn a_message_stands_where_a_file_begins(rt: HostRuntime) -> Result<(), Fail> {
+fn a_message_is_where_a_file_begins(rt: HostRuntime) -> Result<(), Fail> {
     let error = Error::message(rt.alloc(), "refused");
     let finding = finding_of_fault(rt.alloc(), "a", &error)?;
     assert!(rt; is_at_the_beginning(&finding, "refused"));

@@ -17,7 +17,7 @@ fn names_of(alloc: Global, source: &str) -> Result<Names, Error> {
 }
 
 // Whether the span is that of a name of so many characters, which begins here.
-fn stands_at(span: Option<&Span>, line: usize, column: usize, len: usize) -> bool {
+fn is_span_at(span: Option<&Span>, line: usize, column: usize, len: usize) -> bool {
     match span {
         Some(span) => {
             span.start_line == line
@@ -33,16 +33,19 @@ fn stands_at(span: Option<&Span>, line: usize, column: usize, len: usize) -> boo
 fn each_name_has_its_place(rt: HostRuntime) -> Result<(), Fail> {
     let names = names_of(rt.alloc(), SOURCE)?;
     assert_eq!(rt; (names.blocks.len(), names.components.len()), (2, 2));
-    assert!(rt; stands_at(names.blocks.get("head"), 1, 10, 4), "{names:?}");
+    assert!(rt; is_span_at(names.blocks.get("head"), 1, 10, 4), "{names:?}");
     assert!(rt;
-        stands_at(names.blocks.get("head_end"), 3, 19, 8),
+        is_span_at(names.blocks.get("head_end"), 3, 19, 8),
         "{names:?}"
     );
     assert!(rt;
-        stands_at(names.components.get("ui.button"), 2, 18, 6),
+        is_span_at(names.components.get("ui.button"), 2, 18, 6),
         "{names:?}"
     );
-    assert!(rt; stands_at(names.components.get("b"), 2, 60, 1), "{names:?}");
+    assert!(rt;
+        is_span_at(names.components.get("b"), 2, 60, 1),
+        "{names:?}"
+    );
     Ok(())
 }
 
@@ -57,9 +60,9 @@ fn each_parameter_has_its_place(rt: HostRuntime) -> Result<(), Fail> {
     match names.parameters.get("b") {
         Some(parameters) => {
             assert_eq!(rt; parameters.len(), 3);
-            assert!(rt; stands_at(parameters.get("title"), 2, 62, 5), "{names:?}");
-            assert!(rt; stands_at(parameters.get("n"), 2, 70, 1), "{names:?}");
-            assert!(rt; stands_at(parameters.get("rest"), 2, 80, 4), "{names:?}");
+            assert!(rt; is_span_at(parameters.get("title"), 2, 62, 5), "{names:?}");
+            assert!(rt; is_span_at(parameters.get("n"), 2, 70, 1), "{names:?}");
+            assert!(rt; is_span_at(parameters.get("rest"), 2, 80, 4), "{names:?}");
         }
         None => assert!(rt; false, "{names:?}"),
     }

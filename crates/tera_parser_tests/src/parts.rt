@@ -43,7 +43,7 @@ fn word(part: Part<'_>) -> &'static str {
 }
 
 #[test]
-fn parts_stand_from_left_to_right(rt: HostRuntime) -> Result<(), Fail> {
+fn parts_come_from_left_to_right(rt: HostRuntime) -> Result<(), Fail> {
     let alloc = rt.alloc();
     let (definitions, nodes) = both(one(alloc, definition(alloc)), choice(alloc))?;
     let mut left = top_parts(alloc, &definitions, &nodes)?;
