@@ -19,6 +19,7 @@ use Rattle.tera_workspace.specs.Sources.{Source, AreAscending, text_named}
 use Rattle.tera_workspace.specs.Reported.{AreNews, reported_each}
 use Rattle.tera_workspace.specs.Unregistered.{unknown_by}
 use Rattle.tera_workspace.specs.Workspaces.{IsKept, IsSettled}
+use Rattle.text_edits.specs.declared.positions.Encoding.{Encoding}
 use Rattle.tera_workspace.specs.declared.judged.Judged.{Judged}
 use Rattle.tera_workspace.specs.declared.workspace.Workspace.{Workspace}
 use Rattle.tera_workspace.proofs.BelowLemmas.{names_are}
@@ -143,15 +144,20 @@ unreported n [] free = refl
 unreported n (j ∷ js) free =
     not_here (bytes_eq (string_bytes j.template.file) n) (reported_of j) (reported_named n js) (is_among n (map (λ s. s.name) (sources_of js))) free (unreported n js)
 
-pub is_settled : (w : Workspace) (js : List Judged) (news : List News) → w.judged.items ≡ reported_each js news → AllWhole js → AreAscending (sources_of js) → AreCurrent w.encoding js → AreNews w.encoding js news
+-- what was reported is found again in the texts that were read
+pub reported_fresh : (e : Encoding) (js now : List Judged) (news : List News) → now ≡ reported_each js news → AllWhole js → AreAscending (sources_of js) → AreCurrent e js → AreNews e js news
+    → AreFresh e (sources_of js) (λ n. reported_named n now)
+reported_fresh e js now news is whole ordered current are =
+    subst (λ (xs : List Judged). AreFresh e (sources_of js) (λ n. reported_named n xs)) (sym is)
+    (subst (λ (ss : List Source). AreFresh e ss (λ n. reported_named n (reported_each js news))) (reported_sources js news)
+    (all_fresh e (reported_each js news) (reported_whole js news whole) (subst AreAscending (sym (reported_sources js news)) ordered) (all_reported e js news current are)))
+
+is_settled : (w : Workspace) (js : List Judged) (news : List News) → w.judged.items ≡ reported_each js news → AllWhole js → AreAscending (sources_of js) → AreCurrent w.encoding js → AreNews w.encoding js news
     → ((n : List ℕ) → text_named n (sources_of js) ≡ unwrap_or (text_of (document_of w.documents n)) []) → IsSettled w
 is_settled w js news is whole ordered current are texts = record {
   sources = sources_of js;
   are = record { ascending = ordered; texts = texts };
-  fresh =
-      subst (λ (xs : List Judged). AreFresh w.encoding (sources_of js) (λ n. reported_named n xs)) (sym is)
-      (subst (λ (ss : List Source). AreFresh w.encoding ss (λ n. reported_named n (reported_each js news))) (reported_sources js news)
-      (all_fresh w.encoding (reported_each js news) (reported_whole js news whole) (subst AreAscending (sym (reported_sources js news)) ordered) (all_reported w.encoding js news current are)));
+  fresh = reported_fresh w.encoding js w.judged.items news is whole ordered current are;
   others = λ n free. unreported n w.judged.items (subst (λ (ss : List Source). is_among n (map (λ s. s.name) ss) ≡ false) (sym (ap sources_of is ∙ reported_sources js news)) free);
 }
 
@@ -173,7 +179,7 @@ kept_either (Err e) w ds changed key name change is same ok err k = kept_same w 
 
 -- ---- documents that were read, and reported about
 
-same_sources : (js now : List Judged) (news : List News) → now ≡ reported_each js news → sources_of now ≡ sources_of js
+pub same_sources : (js now : List Judged) (news : List News) → now ≡ reported_each js news → sources_of now ≡ sources_of js
 same_sources js now news is = ap sources_of is ∙ reported_sources js news
 
 pub same_templates : (js now : List Judged) (news : List News) → now ≡ reported_each js news → templates_of now ≡ templates_of js

@@ -30,8 +30,9 @@ impl Workspace {
     ghost use Rattle.text_edits.specs.Documents.{no_document, text_of, opened, changed, closed, written, removed};
     ghost use Rattle.text_edits.specs.Edits.{change_view};
     ghost use Rattle.text_edits.specs.Stored.{document_of, IsChangedAt, AreSame};
-    ghost use Rattle.tera_workspace.specs.Definitions.{AreRead};
+    ghost use Rattle.tera_workspace.specs.Definitions.{AreRead, texts_read};
     ghost use Rattle.tera_workspace.specs.Diagnostics.{diagnostic_view};
+    ghost use Rattle.tera_workspace.specs.Fresh.{AreFresh};
     ghost use Rattle.tera_workspace.specs.Kept.{templates_of};
     ghost use Rattle.tera_workspace.specs.Workspaces.{reported_of_name, IsKept, IsSettled, AreOthers};
 
@@ -174,6 +175,9 @@ impl Workspace {
         ensures encoding { self.new.encoding ≡ self.old.encoding }
         ensures documents { self.new.documents ≡ self.old.documents }
         ensures templates { templates_of self.new.judged.items ≡ templates_of self.old.judged.items }
+        ensures texts { texts_read self.new ≡ texts_read self.old }
+        ensures fresh { IsKept self.old →
+            OnOk result (AreFresh self.new.encoding (texts_read self.old) (reported_of_name self.new)) }
         ensures settled { IsKept self.old → AreRead self.old → OnOk result (IsSettled self.new) }
         ensures read { IsKept self.old → AreRead self.old → OnOk result (AreRead self.new) }
         ensures names { IsKept self.old → IfOk result (λ v.

@@ -4,7 +4,7 @@ use Rattle.tera_workspace.specs.Workspaces.{AreOthers}
 use Rattle.tera_workspace.specs.declared.judged.Judged.{Judged}
 use Rattle.tera_workspace.proofs.NewsLemmas.{others_are}
 use Rattle.tera_workspace.proofs.SettleLemmas.{still_ordered}
-use Rattle.tera_workspace.proofs.WorkspaceLemmas.{read_settled, read_still, same_templates, still_kept}
+use Rattle.tera_workspace.proofs.WorkspaceLemmas.{read_settled, read_still, reported_fresh, same_sources, same_templates, still_kept}
 use Rattle.tera_workspace.proofs.workspace.Workspace.settle_read.Goals as goal
 
 pub invariant_of-self : goal.invariant_of-self
@@ -14,6 +14,14 @@ invariant_of-self c = record {
 
 pub returns-clause-templates : goal.returns-clause-templates
 returns-clause-templates c = same_templates c.args.self.now.judged.items c.report.new.all.items c.in_ok-news.news.items c.report.ensures
+
+pub returns-clause-texts : goal.returns-clause-texts
+returns-clause-texts c = same_sources c.args.self.now.judged.items c.report.new.all.items c.in_ok-news.news.items c.report.ensures
+
+pub returns-clause-fresh : goal.returns-clause-fresh
+returns-clause-fresh c = λ kept.
+    let w = c.args.self.now in
+    reported_fresh w.encoding w.judged.items c.report.new.all.items c.in_ok-news.news.items c.report.ensures kept.whole kept.ordered kept.current (c.in_ok-news.ensures.news kept.whole)
 
 pub returns-clause-settled : goal.returns-clause-settled
 returns-clause-settled c = λ kept read. read_settled c.args.self.now c.report.new.all c.in_ok-news.news.items kept read c.in_ok-news.ensures.news c.report.ensures _
