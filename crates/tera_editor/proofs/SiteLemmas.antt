@@ -25,7 +25,7 @@ use Rattle.tera_workspace.specs.Sites.{FitsWorkspace, around_named}
 use Rattle.tera_workspace.specs.Workspaces.{IsKept}
 use Rattle.tera_workspace.specs.declared.workspace.Workspace.{Workspace}
 use Rattle.tera_workspace.proofs.NameSets.{among_append}
-use Rattle.tera_editor.specs.Sites.{AddsRenewed, AreAbsent, AreAround, AreFittingBelow, AreGiven, AreStillKnown, HasOthers, IsGiven, IsNumbered, IsPresenceAt, IsPresenceIf, IsRenewed, IsSaid, KeepsKnown, NoneBefore, Presences, SitedVal, StaysKnown, UsedVal, asked_again, has_folder, is_absent_in, is_below, is_there_as, is_there_in, new_presence, presence_in, renewed_of, sited, with_nothing_known}
+use Rattle.tera_editor.specs.Sites.{AddsRenewed, AreAbsent, AreAround, AreFittingBelow, AreGiven, AreStillKnown, HasOthers, IsGiven, IsNumbered, IsPresenceAt, IsPresenceIf, IsRenewed, IsSaid, KeepsKnown, NoneBefore, Presences, SitedVal, StaysKnown, UsedVal, asked_again, asked_again_in, asked_if, has_folder, is_absent_in, is_below, is_entry_due, is_there_as, is_there_in, new_presence, presence_in, renewed_of, sited, with_nothing_known}
 use Rattle.tera_editor.specs.declared.sites.FolderSite.{FolderSite}
 use Rattle.tera_editor.specs.declared.sites.Presence.{Presence}
 use Rattle.tera_editor.specs.declared.sites.Sites.{Sites}
@@ -407,7 +407,7 @@ pub record AskedSoFar (end : ℕ) (s t : Sites) : Type 0 where
   pub around : AreAround [] s t
   pub given : AreGiven s → AreGiven t
   pub renewed : t.renewed ≡ s.renewed
-  pub done : (k : ℕ) (d : FolderSite) (n : List ℕ) → k < end → presence_in (get_or t.all.items k d) n ≡ option_map asked_again (presence_in (get_or s.all.items k d) n)
+  pub done : (k : ℕ) (d : FolderSite) (n : List ℕ) → k < end → presence_in (get_or t.all.items k d) n ≡ asked_again_in (get_or s.all.items k d) n
   pub rest : (k : ℕ) (d : FolderSite) → end ≤ k → get_or t.all.items k d ≡ get_or s.all.items k d
 
 -- .. of the names of one site so far none was assumed, unless some was
@@ -568,7 +568,7 @@ pub stays_around : (x y : FolderSite) → y.folder ≡ x.folder → y.site ≡ x
 stays_around x y folder site = record { folder = folder; root = ap (λ (s : KeptSiteVal). s.root) site; same = λ n e. ap (λ (s : KeptSiteVal). around_named n s.documents) site }
 
 pub asked_next : (k : ℕ) (s t u : Sites) (x y : FolderSite) → AskedSoFar k s t → k < length t.all.items → x ≡ get_or t.all.items k x → u.all.items ≡ set t.all.items k y
-    → u.renewed ≡ t.renewed → y.folder ≡ x.folder → y.site ≡ x.site → (IsGiven x → IsGiven y) → ((n : List ℕ) → presence_in y n ≡ option_map asked_again (presence_in x n)) → AskedSoFar (k + 1) s u
+    → u.renewed ≡ t.renewed → y.folder ≡ x.folder → y.site ≡ x.site → (IsGiven x → IsGiven y) → ((n : List ℕ) → presence_in y n ≡ asked_again_in x n) → AskedSoFar (k + 1) s u
 asked_next k s t u x y h within is then_is renewed folder site given asked = record {
   around = around_at [] [] s t u k y within then_is h.around (λ d. subst (λ z. IsRenewed [] z y) (get_or_read t.all.items k x within is d) (stays_around x y folder site));
   given = given_at s t u k x y h.given within is then_is given;
@@ -580,7 +580,7 @@ asked_next k s t u x y h within is then_is renewed folder site given asked = rec
         let e : m ≡ k = omega (arith, ge, below) in
         let old : x ≡ get_or s.all.items m d = get_or_read t.all.items k x within is d ∙ h.rest k d (omega arith) ∙ ap (λ i. get_or s.all.items i d) (sym e) in
         ap (λ z. presence_in z n) (ap (λ zs. get_or zs m d) then_is ∙ ap (λ i. get_or (set t.all.items k y) i d) e ∙ get_or-set_same t.all.items k y d within)
-        ∙ asked n ∙ ap (λ z. option_map asked_again (presence_in z n)) old
+        ∙ asked n ∙ ap (λ z. asked_again_in z n) old
   ];
   rest = λ m d above. ap (λ zs. get_or zs m d) then_is ∙ rest_stays s.all.items t.all.items k y h.rest m d above;
 }
@@ -589,18 +589,7 @@ asked_next k s t u x y h within is then_is renewed folder site given asked = rec
 pub new_given : (x : FolderSite) (root : List ℕ) → x.site ≡ no_site root [] → x.presences.entries ≡ [] → IsGiven x
 new_given x root site none news n = ap (λ (s : KeptSiteVal). is_one_of s.others n) site ∙ sym (ap (list_any (is_there_as n)) none)
 
--- ---- names that are asked again, and names of which there may be files
-
--- each of the names
-pub asked_all : (m n : Presences) → n.entries ≡ map (λ e. (e.0, asked_again e.1)) m.entries → (q : List ℕ) → get_by_text n q ≡ option_map asked_again (get_by_text m q)
-asked_all m n e q =
-    let test = is_at (λ k. slice_cmp nat_cmp q (string_bytes k)) in
-    ap (λ es. lookup test es) e ∙ lookup-map_values asked_again test m.entries
-
--- there may be a file as before
-pub asked_there : (q : List ℕ) (es : List (String Global × Presence)) → list_any (is_there_as q) (map (λ e. (e.0, asked_again e.1)) es) ≡ list_any (is_there_as q) es
-asked_there q [] = refl
-asked_there q (e ∷ es) = ap (λ b. is_there_as q e || b) (asked_there q es)
+-- ---- names of which there may be files
 
 -- there may be one of a name if that is known of it
 never : (b : Bool) → (b && false) ≡ false
@@ -651,6 +640,107 @@ there_by q ((k, p) ∷ es) distinct =
 
 there_in : (m : Presences) → IsOrdered string_cmp m → (q : List ℕ) → list_any (is_there_as q) m.entries ≡ is_there_in (get_by_text m q)
 there_in m ordered q = there_by q m.entries (IsDistinct-from_sorted string_cmp (keys_of m.entries) ordered)
+
+-- ---- names that are asked again
+
+-- first those of which there may be a file
+abbrev pub asked_if_there : Presence → Presence
+asked_if_there p = record p { is_due = p.is_there }
+
+pub each_by : (m n : Presences) (f : Presence → Presence) → n.entries ≡ map (λ e. (e.0, f e.1)) m.entries → (q : List ℕ) → get_by_text n q ≡ option_map f (get_by_text m q)
+each_by m n f e q = ap (λ es. lookup (is_key q) es) e ∙ lookup-map_values f (is_key q) m.entries
+
+-- then those of some names, one by one
+pub asked_of_nil : (o : Option Presence) → o ≡ option_map (asked_if false) o
+asked_of_nil None = refl
+asked_of_nil (Some p) = refl
+
+pub asked_of_name : (name : List ℕ) (m n : Presences) (p : Presence) → get_by_text m name ≡ Some p → Updates name m n (Some (asked_again p))
+    → (q : List ℕ) → get_by_text n q ≡ cond (bytes_eq name q) (option_map asked_again (get_by_text m q)) (get_by_text m q)
+asked_of_name name m n p had h q = btree_map_updates_text name m n (Some (asked_again p)) h q ∙ by (bytes_eq name q) (bytes_eq-Decides name q).0
+  where
+    by : (b : Bool) → (b ≡ true → name ≡ q) → cond b (Some (asked_again p)) (get_by_text m q) ≡ cond b (option_map asked_again (get_by_text m q)) (get_by_text m q)
+    by true is = ap (option_map asked_again) (sym had ∙ ap (get_by_text m) (is refl))
+    by false is = refl
+
+pub asked_of_next : (ns : List (List ℕ)) (name q : List ℕ) (o : Option Presence)
+    → cond (bytes_eq name q) (option_map asked_again (option_map (asked_if (is_among q ns)) o)) (option_map (asked_if (is_among q ns)) o) ≡ option_map (asked_if (is_among q (ns ++ name ∷ []))) o
+asked_of_next ns name q o = by (is_among q ns) (bytes_eq name q) o ∙ ap (λ b. option_map (asked_if b) o) (sym (among_append q ns (name ∷ [])))
+  where
+    by : (b c : Bool) (p : Option Presence) → cond c (option_map asked_again (option_map (asked_if b) p)) (option_map (asked_if b) p) ≡ option_map (asked_if (b || (if c then true else false))) p
+    by b true None = refl
+    by b false None = refl
+    by true true (Some p) = refl
+    by true false (Some p) = refl
+    by false true (Some p) = refl
+    by false false (Some p) = refl
+
+-- the others are not kept
+none_other : (q : List ℕ) (k : String Global) (es : List (String Global × Presence)) → q ≡ string_bytes k → AllByRecursion (λ j. eq_by_cmp string_cmp k j ≡ false) (keys_of es) → lookup (is_key q) es ≡ None
+none_other q k [] is apart = refl
+none_other q k ((j, p) ∷ es) is apart =
+    ap (λ b. cond b (Some p) (lookup (is_key q) es)) (subst (λ n. is_at (λ i. slice_cmp nat_cmp n (string_bytes i)) j ≡ false) (sym is) apart.0) ∙ none_other q k es is apart.1
+
+abbrev only_due : Option Presence → Option Presence
+only_due None = None
+only_due (Some p) = cond p.is_due (Some p) None
+
+kept_due : (q : List ℕ) (es : List (String Global × Presence)) → IsDistinct (eq_by_cmp string_cmp) (keys_of es) → lookup (is_key q) (filter is_entry_due es) ≡ only_due (lookup (is_key q) es)
+kept_due q [] distinct = refl
+kept_due q ((k, p) ∷ es) distinct =
+    by (is_key q k) p.is_due (is_eq-slice_cmp q (string_bytes k)) refl refl (kept_due q es (IsDistinct-tail (eq_by_cmp string_cmp) k (keys_of es) distinct))
+  where
+    kept : List (String Global × Presence)
+    kept = filter is_entry_due es
+
+    none : bytes_eq q (string_bytes k) ≡ true → lookup (is_key q) es ≡ None
+    none same = none_other q k es ((bytes_eq-Decides q (string_bytes k)).0 same) (IsDistinct-head (eq_by_cmp string_cmp) k (keys_of es) distinct)
+
+    by : (b due : Bool) → b ≡ bytes_eq q (string_bytes k) → is_key q k ≡ b → p.is_due ≡ due → lookup (is_key q) kept ≡ only_due (lookup (is_key q) es)
+        → lookup (is_key q) (cond due ((k, p) ∷ kept) kept) ≡ only_due (cond b (Some p) (lookup (is_key q) es))
+    by true true is here due h = ap (λ c. cond c (Some p) (lookup (is_key q) kept)) here ∙ ap (λ c. cond c (Some p) None) (sym due)
+    by true false is here due h = h ∙ ap only_due (none (sym is)) ∙ ap (λ c. cond c (Some p) None) (sym due)
+    by false true is here due h = ap (λ c. cond c (Some p) (lookup (is_key q) kept)) here ∙ h
+    by false false is here due h = h
+
+-- what is known of a name then
+pub asked_at : (x : FolderSite) (m n o : Presences) → IsOrdered string_cmp n → ((q : List ℕ) → get_by_text m q ≡ option_map asked_if_there (presence_in x q))
+    → ((q : List ℕ) → get_by_text n q ≡ option_map (asked_if (is_among q x.site.lacking)) (get_by_text m q)) → o.entries ≡ filter is_entry_due n.entries
+    → (q : List ℕ) → get_by_text o q ≡ asked_again_in x q
+asked_at x m n o ordered first then_is last q =
+    ap (λ es. lookup (is_key q) es) last ∙ kept_due q n.entries (IsDistinct-from_sorted string_cmp (keys_of n.entries) ordered)
+    ∙ ap only_due (then_is q ∙ ap (option_map (asked_if (is_among q x.site.lacking))) (first q))
+    ∙ by (is_among q x.site.lacking) (presence_in x q)
+  where
+    by_there : (lacks there due : Bool) → only_due (Some (asked_if lacks (asked_if_there (record { is_there = there; is_due = due }))))
+        ≡ cond (there || lacks) (Some (record { is_there = there; is_due = true })) None
+    by_there true true due = refl
+    by_there true false due = refl
+    by_there false true due = refl
+    by_there false false due = refl
+
+    by : (lacks : Bool) (p : Option Presence) → only_due (option_map (asked_if lacks) (option_map asked_if_there p)) ≡ cond (is_there_in p || lacks) (option_map asked_again p) None
+    by true None = refl
+    by false None = refl
+    by lacks (Some p) = by_there lacks p.is_there p.is_due
+
+-- there may be files of the same names
+pub asked_given : (x : FolderSite) (o : Presences) → IsOrdered string_cmp x.presences → IsOrdered string_cmp o → ((q : List ℕ) → get_by_text o q ≡ asked_again_in x q) → IsGiven x → IsGiven (record x { presences = o })
+asked_given x o before after asked g news q =
+    g news q ∙ there_in x.presences before q ∙ by (is_among q x.site.lacking) (presence_in x q) ∙ ap is_there_in (sym (asked q)) ∙ sym (there_in o after q)
+  where
+    by_there : (lacks there due : Bool) → there ≡ is_there_in (cond (there || lacks) (Some (record { is_there = there; is_due = true })) None)
+    by_there true true due = refl
+    by_there true false due = refl
+    by_there false true due = refl
+    by_there false false due = refl
+
+    by : (lacks : Bool) (p : Option Presence) → is_there_in p ≡ is_there_in (cond (is_there_in p || lacks) (option_map asked_again p) None)
+    by true None = refl
+    by false None = refl
+    by lacks (Some p) = by_there lacks p.is_there p.is_due
+
+-- ---- names that are set
 
 -- what is said of a name is not news if there might be a file as before
 pub said_given : (name : List ℕ) (x y : FolderSite) (there : Bool) → IsOrdered string_cmp x.presences → IsOrdered string_cmp y.presences → y.site ≡ x.site

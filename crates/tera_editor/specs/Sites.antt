@@ -1,5 +1,5 @@
 -- The sites below the roots of folders, and what is known of the files whose names templates use.
-use Rattle.std.specs.Prelude.{◌≡◌, ◌⊎◌, ◌++◌, ◌&&◌, ℕ, ◌<◌, List, [], Bool, false, true, not, cond, length, map, String, string_bytes, slice_index_or, Option, None, Some}
+use Rattle.std.specs.Prelude.{◌≡◌, ◌⊎◌, ◌++◌, ◌&&◌, ◌||◌, ℕ, ◌<◌, List, [], Bool, false, true, not, cond, length, map, String, string_bytes, slice_index_or, Option, None, Some}
 use Rattle.std.specs.BTreeMap.{BTreeMap, get_by_text}
 use Rattle.std.specs.List.{filter, find, flat_map, list_any}
 use Rattle.std.specs.Option.{option_and_then, option_map, option_map_or}
@@ -98,6 +98,10 @@ is_there_in p = option_map_or (λ q. q.is_there) p false
 abbrev pub asked_again : Presence → Presence
 asked_again p = record p { is_due = true }
 
+abbrev pub asked_if : Bool → Presence → Presence
+asked_if true p = asked_again p
+asked_if false p = p
+
 -- a name that is to be asked, and the root below which its file would be
 pub record UsedVal : Type 0 where
   pub root : List ℕ
@@ -193,8 +197,15 @@ IsPresenceOf u there old now =
     (k : ℕ) (d : FolderSite) → k < length old.all.items
     → IsPresenceIf (is_below u (slice_index_or old.all.items k d)) u there (slice_index_or old.all.items k d) (slice_index_or now.all.items k d)
 
--- each name is to be asked again
+-- a name that is lacking is to be asked again, and one that may have a file; of others nothing is known then
+abbrev pub is_asked_again : FolderSite → List ℕ → Bool
+is_asked_again x n = is_there_in (presence_in x n) || is_among n x.site.lacking
+
+abbrev pub asked_again_in : FolderSite → List ℕ → Option Presence
+asked_again_in x n = cond (is_asked_again x n) (option_map asked_again (presence_in x n)) None
+
+-- .. in each site
 abbrev pub AreDueAgain : Sites → Sites → Type 0
 AreDueAgain old now =
     (k : ℕ) (d : FolderSite) (n : List ℕ) → k < length old.all.items
-    → presence_in (slice_index_or now.all.items k d) n ≡ option_map asked_again (presence_in (slice_index_or old.all.items k d) n)
+    → presence_in (slice_index_or now.all.items k d) n ≡ asked_again_in (slice_index_or old.all.items k d) n

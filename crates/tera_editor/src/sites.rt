@@ -1,10 +1,11 @@
 //! The sites below the roots of folders, and what is known of the files whose names templates use.
 
-ghost use Rattle.std.specs.Prelude.{◌≡◌, ◌⊎◌, ◌++◌, ◌<◌, ℕ, List, [], None, Some, true, false, length, map, string_bytes, option_map, IfOk, MatchOption, OnOk, OnErr};
+ghost use Rattle.std.specs.Prelude.{◌≡◌, ◌⊎◌, ◌++◌, ◌<◌, ℕ, List, [], None, Some, true, false, cond, length, map, string_bytes, option_map, IfOk, MatchOption, OnOk, OnErr};
 ghost use Rattle.std.specs.BTreeMap.{get_by_text};
 ghost use Rattle.std.specs.Str.{bytes_eq};
 ghost use Rattle.tera_site.specs.Kept.{is_one_of, names_in};
 ghost use Rattle.tera_workspace.specs.Definitions.{AreRead};
+ghost use Rattle.tera_workspace.specs.Names.{is_among};
 ghost use Rattle.tera_workspace.specs.SiteValues.{no_site};
 ghost use Rattle.tera_workspace.specs.Sites.{AreRenewed, FitsWorkspace};
 ghost use Rattle.tera_workspace.specs.Workspaces.{IsKept};
@@ -37,7 +38,8 @@ pub(crate) struct Presence {
 pub(crate) struct FolderSite {
     folder: String,
     site: KeptSite,
-    // Of names that templates use, or used, and that no template has.
+    // Of names that templates use and that no template has. A name that is not used any more stays until `look_again`, and
+    // as long as there may be a file of it.
     presences: BTreeMap<String, Presence>,
     // Whether the site may have been given others than those that may be there.
     has_news: bool,
@@ -227,7 +229,8 @@ impl Sites {
         Ok(())
     }
 
-    /// Files may have come or gone: of each name it is to be asked again.
+    /// Files may have come or gone: it is to be asked again of each name that templates use and none has, and of each that
+    /// may have a file. Of others nothing is known any more.
     pub fn look_again(&mut self)
         ensures given { AreGiven self.old → AreGiven self.new }
         ensures sites { AreAround [] self.old self.new }
@@ -364,15 +367,38 @@ impl FolderSite {
         }
     }
 
+    // It is to be asked again of each name that is lacking, and of each that may have a file. Of others, which no template
+    // uses any more or which a template has, nothing is known then.
     fn look_again(&mut self)
-        ensures due { (n : List ℕ) → presence_in self.new n ≡ option_map specs.asked_again (presence_in self.old n) }
+        ensures due { (n : List ℕ) → presence_in self.new n ≡ specs.asked_again_in self.old n }
         ensures given { IsGiven self.old → IsGiven self.new }
         ensures same { self.new ≡ record self.old { presences = self.new.presences } }
     {
         self.presences.retain(|_, presence| {
-            presence.is_due = true;
+            presence.is_due = presence.is_there;
             true
         });
+        ask_each(self.site.lacking(), &mut self.presences);
+        self.presences.retain(|_, presence| presence.is_due);
+    }
+}
+
+// It is to be asked again of these names, as far as something is known of them.
+fn ask_each(names: &[String], presences: &mut BTreeMap<String, Presence>)
+    ensures { (n : List ℕ) → get_by_text presences.new n
+        ≡ option_map (specs.asked_if (is_among n (map string_bytes names.now))) (get_by_text presences.old n) }
+{
+    for name in names {
+        ask(presences, name.as_str());
+    }
+}
+
+fn ask(presences: &mut BTreeMap<String, Presence>, name: &str)
+    ensures { (n : List ℕ) → get_by_text presences.new n ≡ cond (bytes_eq name.now n)
+        (option_map specs.asked_again (get_by_text presences.old n)) (get_by_text presences.old n) }
+{
+    if let Some(presence) = presences.get_mut(name) {
+        presence.is_due = true;
     }
 }
 

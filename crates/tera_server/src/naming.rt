@@ -44,7 +44,8 @@ impl Server {
         self.sites.set_presence(alloc, used, is_there)
     }
 
-    /// Files may have come or gone: each name that templates use and none has is due again.
+    /// Files may have come or gone: each name that templates use and none has is due again, and each that may have a file.
+    /// Of others nothing is known any more.
     pub fn look_again(&mut self)
         ensures same { self.new ≡ record self.old { sites = self.new.sites } }
         ensures only { OnlyNames self.old self.new }
