@@ -40,7 +40,7 @@ is_read name text t file sound complete fault refusal lost notes unmended mended
     record { file = file; sound = sound; complete = complete; fault = fault; refusal = refusal; lost = lost; notes = notes; unmended = unmended; mended = mended; places = places; ignores = ignores; hidden = hidden }
 
 pub is_anew : (name text : List ℕ) (j : Judged) → j.text ≡ text → IsRead (record { name = name; text = text }) j.template
-    → HasNames j.names.items j.template → kept_page j.page ≡ page_of j.template → j.stale ≡ true → reported_of j ≡ [] → IsAnew name text j
+    → HasNames j.names j.template → kept_page j.page ≡ page_of j.template → j.stale ≡ true → reported_of j ≡ [] → IsAnew name text j
 is_anew name text j same read names page stale unreported =
     record {
       named = read.file;

@@ -1,6 +1,6 @@
 -- What was reported stays as it would be found, where another text of one file is read and those are marked that name
 -- what it changes, or have a finding with a place in it.
-use Rattle.std.proofs.Common.{◌≡◌, ◌∙◌, ◌<◌, ℕ, zero, suc, List, [], ◌∷◌, ◌++◌, ◌||◌, length, get_or, set, map, Bool, true, false, Option, None, Some, MatchOption, string_bytes, refl, sym, ap, subst, inl, inr, arith}
+use Rattle.std.proofs.Common.{◌≡◌, ◌∙◌, ◌<◌, ℕ, zero, suc, List, [], ◌∷◌, ◌++◌, ◌||◌, length, get_or, set, map, Bool, true, false, Option, None, Some, MatchOption, refl, sym, ap, subst, inl, inr, arith}
 use Rattle.std.proofs.lemmas.Bool.{cases_eq}
 use Rattle.std.proofs.Common.{if◌then◌else◌}
 use Rattle.std.specs.List.{AllByRecursion, list_any}
@@ -76,7 +76,7 @@ module _ (file : List ℕ) (k : ℕ) (ts us : List Template) where
       found_if ts us k k t fs found (due_same (are_open ts) t (tree_of t) agree due_beside ∙ ap (λ b. due_findings now b k t) opened)
 
   pub still_reported : (e : Encoding) (ss rs : List Source) (j : Judged) (touched : List (List ℕ))
-      → HasNames j.names.items j.template → list_any (λ n. is_among n (map string_bytes j.names.items)) touched ≡ false → is_reported_in file j ≡ false
+      → HasNames j.names j.template → list_any (λ n. is_among n j.names) touched ≡ false → is_reported_in file j ≡ false
       → are_open ts ≡ are_open us
       → ((n : List ℕ) → is_among n touched ≡ false → AreAlikeButIfAny file k (before n) (now n))
       → ((name : List ℕ) → (name ≡ file → ⊥) → text_named name rs ≡ text_named name ss)
@@ -84,7 +84,7 @@ module _ (file : List ℕ) (k : ℕ) (ts us : List Template) where
   still_reported e ss rs j touched has none unreported opened alike same (fs, found, reported) =
       let quiet = none_reported e file ss j.text j.reported.items (map finding_view fs) reported unreported in (
         fs,
-        found_by j.template fs quiet opened (agree_by (map string_bytes j.names.items) touched none alike (tree_of j.template) has) found,
+        found_by j.template fs quiet opened (agree_by j.names touched none alike (tree_of j.template) has) found,
         reported ∙ sym (findings_same e file ss rs same j.text (map finding_view fs) (all_beside file (map finding_view fs) quiet)),
       )
 
@@ -183,7 +183,7 @@ module _ (e : Encoding) (touched : List (List ℕ)) (js : List Judged) (i : ℕ)
       → IsWhole (get_or js k x) → IsCurrent e after k (marked touched (name_of j) (get_or js k x))
   others_current k x opened in_it current is_whole fresh =
       let one = get_or js k x in
-      let (none, unreported, was) = unmarked (list_any (λ n. is_among n (map string_bytes one.names.items)) touched) (is_reported_in (name_of j) one) one.stale fresh in
+      let (none, unreported, was) = unmarked (list_any (λ n. is_among n one.names) touched) (is_reported_in (name_of j) one) one.stale fresh in
       let reported : IsReported e (set (sources_of js) i (source_of j)) (set (templates_of js) i j.template) k one.text one.template (reported_of one) =
       still_reported (name_of j) k (templates_of js) (set (templates_of js) i j.template) e (sources_of js) (set (sources_of js) i (source_of j)) one touched
       is_whole.names none unreported (opened ∙ ap are_open templates_after) (alike k) same (current was) in

@@ -1,8 +1,7 @@
 -- What is due of the findings in a tree, by components that are known alike.
-use Rattle.std.proofs.Common.{◌≡◌, ◌∙◌, ℕ, List, [], ◌++◌, map, Bool, true, Option, None, Some, String, string_bytes, MatchOption, refl, ap, subst}
+use Rattle.std.proofs.Common.{◌≡◌, ◌∙◌, ℕ, List, [], ◌++◌, map, Bool, true, Option, None, Some, MatchOption, refl, ap, subst}
 use Rattle.std.specs.List.Sorted.{IsPermutation}
 use Rattle.std.specs.Option.{option_map_or}
-use Rattle.std.specs.declared.alloc.Global.{Global}
 use Rattle.tera_tree.specs.Outputs.{output_view}
 use Rattle.tera_tree.specs.declared.outputs.ParserOutput.{ParserOutput}
 use Rattle.tera_check.specs.Alike.{names_in, AreAlikeIfAny, AgreeOn}
@@ -59,8 +58,8 @@ module _ (known : List ℕ → Option KnownVal) (ts : List Template) (number : �
       all_among (λ n. AreAlikeIfAny number number (known n) (first_named n (defined_by 0 ts))) (names_in (output_view o))
       (λ n among. subst (λ x. AreAlikeIfAny number number (known n) x) (same n (ap (is_among n) has ∙ among)) (alike_itself number (known n)))
 
-pub found_here : (known : List ℕ → Option KnownVal) (open_text : Bool) (ts : List Template) (number : ℕ) (t : Template) (names : List (String Global)) (fs : List Finding)
-    → ((n : List ℕ) → is_among n (map string_bytes names) ≡ true → known n ≡ first_named n (defined_by 0 ts))
+pub found_here : (known : List ℕ → Option KnownVal) (open_text : Bool) (ts : List Template) (number : ℕ) (t : Template) (names : List (List ℕ)) (fs : List Finding)
+    → ((n : List ℕ) → is_among n names ≡ true → known n ≡ first_named n (defined_by 0 ts))
     → open_text ≡ are_open ts → HasNames names t → IsInOrder fs
     → (faults : List FindingVal) → AreFaultsOf t faults → IsPermutation (faults ++ due_findings known open_text number t) (map finding_view fs)
     → IsFound ts number t fs
@@ -70,6 +69,6 @@ found_here known open_text ts number t names fs same is has ordered faults are f
   are = are;
   found =
       subst (λ x. IsPermutation (faults ++ x) (map finding_view fs))
-      (due_alike number number known (λ n. first_named n (defined_by 0 ts)) open_text t (tree_of t) (agree_part known ts number (map string_bytes names) same (tree_of t) has)
+      (due_alike number number known (λ n. first_named n (defined_by 0 ts)) open_text t (tree_of t) (agree_part known ts number names same (tree_of t) has)
       ∙ ap (λ b. due_findings (λ n. first_named n (defined_by 0 ts)) b number t) is) found;
 }

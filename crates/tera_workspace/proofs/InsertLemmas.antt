@@ -1,6 +1,6 @@
 -- What was reported stays as it would be found, where a document is put among others and those are marked that name
 -- what it defines.
-use Rattle.std.proofs.Common.{◌≡◌, ◌∙◌, ◌+◌, ◌<◌, ◌≤◌, ◌==◌, ℕ, zero, suc, List, [], ◌∷◌, ◌++◌, length, get_or, map, Bool, true, false, cond, Option, None, Some, MatchOption, string_bytes, refl, sym, ap, subst, inl, inr, arith, nat_eq, add-one}
+use Rattle.std.proofs.Common.{◌≡◌, ◌∙◌, ◌+◌, ◌<◌, ◌≤◌, ◌==◌, ℕ, zero, suc, List, [], ◌∷◌, ◌++◌, length, get_or, map, Bool, true, false, cond, Option, None, Some, MatchOption, refl, sym, ap, subst, inl, inr, arith, nat_eq, add-one}
 use Rattle.std.specs.List.{insert}
 use Rattle.std.specs.List.{AllByRecursion, list_any}
 use Rattle.std.specs.Str.{bytes_eq}
@@ -110,14 +110,14 @@ module _ (number other : ℕ) (ts us : List Template) where
       (λ n among. alike n (not_among names n (ap (is_among n) has ∙ among) touched none))
 
   moved_reported : (e : Encoding) (file : List ℕ) (ss rs : List Source) (j : Judged) (touched : List (List ℕ))
-      → HasNames j.names.items j.template → list_any (λ n. is_among n (map string_bytes j.names.items)) touched ≡ false → is_reported_in file j ≡ false
+      → HasNames j.names j.template → list_any (λ n. is_among n j.names) touched ≡ false → is_reported_in file j ≡ false
       → are_open ts ≡ are_open us
       → ((n : List ℕ) → is_among n touched ≡ false → AreAlikeIfAny number other (before n) (now n))
       → ((name : List ℕ) → (name ≡ file → ⊥) → text_named name rs ≡ text_named name ss)
       → IsReported e ss ts number j.text j.template (reported_of j) → IsReported e rs us other j.text j.template (reported_of j)
   moved_reported e file ss rs j touched has none unreported opened alike same (fs, found, reported) =
       let quiet = none_reported e file ss j.text j.reported.items (map finding_view fs) reported unreported in
-      let agree = agree_by (map string_bytes j.names.items) touched none alike (tree_of j.template) has in (
+      let agree = agree_by j.names touched none alike (tree_of j.template) has in (
         fs,
         found_if ts us number other j.template fs found
             (due_alike number other before now (are_open ts) j.template (tree_of j.template) agree ∙ ap (λ b. due_findings now b other j.template) opened),
@@ -148,7 +148,7 @@ module _ (e : Encoding) (name : List ℕ) (touched : List (List ℕ)) (js : List
       → IsCurrent e after l (marked touched name (get_or js k x))
   other_current k l x opened in_it current is_whole before following fresh =
       let one = get_or js k x in
-      let (none, unreported, was) = unmarked (list_any (λ n. is_among n (map string_bytes one.names.items)) touched) (is_reported_in name one) one.stale fresh in
+      let (none, unreported, was) = unmarked (list_any (λ n. is_among n one.names) touched) (is_reported_in name one) one.stale fresh in
       let alike : (n : List ℕ) → is_among n touched ≡ false → AreAlikeIfAny k l (first_named n (defined_by 0 (templates_of js))) (first_named n (defined_by 0 (templates_of (insert js i j)))) =
       λ n free. subst (λ ts. AreAlikeIfAny k l (first_named n (defined_by 0 (templates_of js))) (first_named n (defined_by 0 ts))) (sym (map_insert (λ (y : Judged). y.template) js i j))
       (insert_alike k l n j.template 0 (templates_of js) i (omega (arith, within, map_length (λ (y : Judged). y.template) js)) (heads n free) (λ m h. before m (omega (arith, h))) (λ m h. following m (omega (arith, h)))) in
@@ -160,7 +160,7 @@ module _ (e : Encoding) (name : List ℕ) (touched : List (List ℕ)) (js : List
 
   fresh_not : IsCurrent e after i (marked touched name j)
   fresh_not fresh =
-      let (_, _, was) = unmarked (list_any (λ n. is_among n (map string_bytes j.names.items)) touched) (is_reported_in name j) j.stale fresh in absurd (false_true (sym was ∙ stale))
+      let (_, _, was) = unmarked (list_any (λ n. is_among n j.names) touched) (is_reported_in name j) j.stale fresh in absurd (false_true (sym was ∙ stale))
 
   after_it : (k : ℕ) (x : Judged) → are_open (templates_of js) ≡ are_open (templates_of after) → k < length (insert js i j) → AreCurrent e js → i < k → IsCurrent e after k (marked touched name (get_or (insert js i j) k x))
   after_it zero x opened in_it current above = absurd (omega arith)

@@ -15,6 +15,7 @@ pub mod KnownLemmas
 pub mod KeptSiteLemmas
 pub mod LeftLemmas
 pub mod MarkLemmas
+pub mod NameListLemmas
 pub mod NameSets
 pub mod NamedLemmas
 pub mod NewsLemmas

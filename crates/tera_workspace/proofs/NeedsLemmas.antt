@@ -1,5 +1,5 @@
 -- Names by which documents are judged that are stale, one document on.
-use Rattle.std.proofs.Common.{◌≡◌, ◌∙◌, ◌+◌, ◌<◌, ◌∷◌, ◌++◌, ◌||◌, ℕ, List, [], Bool, true, false, BTreeSet, Bor, length, get_or, take, map, string_bytes, refl, sym, ap, subst}
+use Rattle.std.proofs.Common.{◌≡◌, ◌∙◌, ◌+◌, ◌<◌, ◌∷◌, ◌++◌, ◌||◌, ℕ, List, [], Bool, true, false, BTreeSet, Bor, length, get_or, take, refl, sym, ap, subst}
 use Rattle.std.proofs.lemmas.List.{take_more}
 use Rattle.tera_workspace.specs.Kept.{NeedsAll}
 use Rattle.tera_workspace.specs.Names.{is_among, contains_name}
@@ -8,7 +8,7 @@ use Rattle.tera_workspace.proofs.CurrentLemmas.{all_at}
 use Rattle.tera_workspace.proofs.PlaceLemmas.{false_true}
 
 abbrev NeedsOne : BTreeSet (Bor (List ℕ)) → Judged → Type 0
-NeedsOne needed j = j.stale ≡ true → (n : List ℕ) → is_among n (map string_bytes j.names.items) ≡ true → contains_name needed n ≡ true
+NeedsOne needed j = j.stale ≡ true → (n : List ℕ) → is_among n j.names ≡ true → contains_name needed n ≡ true
 
 needs_more : (old now : BTreeSet (Bor (List ℕ))) (js : List Judged) (one : Judged) → ((n : List ℕ) → contains_name old n ≡ true → contains_name now n ≡ true)
     → NeedsOne now one → NeedsAll old js → NeedsAll now (js ++ one ∷ [])
@@ -25,10 +25,10 @@ or_true true = refl
 or_true false = refl
 
 pub needs_added : (old now : BTreeSet (Bor (List ℕ))) (js : List Judged) (i : ℕ) (j : Judged) → i < length js → j ≡ get_or js i j
-    → ((n : List ℕ) → contains_name now n ≡ (contains_name old n || is_among n (map string_bytes j.names.items))) → NeedsAll old (take i js) → NeedsAll now (take (i + 1) js)
+    → ((n : List ℕ) → contains_name now n ≡ (contains_name old n || is_among n j.names)) → NeedsAll old (take i js) → NeedsAll now (take (i + 1) js)
 needs_added old now js i j within is added h =
     needs_next old now js i j within is
-    (λ n had. added n ∙ ap (λ b. b || is_among n (map string_bytes j.names.items)) had)
+    (λ n had. added n ∙ ap (λ b. b || is_among n j.names) had)
     (λ stale n among. added n ∙ (ap (λ b. contains_name old n || b) among ∙ or_true (contains_name old n)))
     h
 

@@ -1,12 +1,11 @@
 -- What checked documents represent, and what holds of them.
-use Rattle.std.specs.Prelude.{◌≡◌, ◌||◌, if◌then◌else◌, Option, None, Some, ℕ, ◌<◌, ◌≤◌, List, [], ◌∷◌, Bool, true, false, cond, length, map, String, string_bytes, slice_index_or, MatchOption}
+use Rattle.std.specs.Prelude.{◌≡◌, ◌||◌, if◌then◌else◌, Option, None, Some, ℕ, ◌<◌, ◌≤◌, List, [], ◌∷◌, Bool, true, false, cond, length, map, string_bytes, slice_index_or, MatchOption}
 use Rattle.std.specs.BTreeSet.{BTreeSet}
 use Rattle.std.specs.Borrow.{Bor}
 use Rattle.std.specs.Cmp.Lexicographic.{slice_cmp}
 use Rattle.std.specs.List.{AllByRecursion, list_any}
 use Rattle.std.specs.Ordering.{nat_cmp, is_gt}
 use Rattle.std.specs.Str.{bytes_eq}
-use Rattle.std.specs.declared.alloc.Global.{Global}
 use Rattle.tera_tree.specs.Outputs.{output_view}
 use Rattle.tera_check.specs.Alike.{names_in}
 use Rattle.tera_templates.specs.Lost.{are_open}
@@ -63,13 +62,13 @@ pub record IsNewPlace (n : List ℕ) (js : List Judged) (k : ℕ) : Type 0 where
 
 -- these are the names of the components that the tree of the template defines and calls; without a tree nothing is
 -- required
-abbrev pub HasNames : List (String Global) → Template → Type 0
-HasNames names t = MatchOption (tree_of t) (Unit {0}) (λ o. map string_bytes names ≡ names_in (output_view o))
+abbrev pub HasNames : List (List ℕ) → Template → Type 0
+HasNames names t = MatchOption (tree_of t) (Unit {0}) (λ o. names ≡ names_in (output_view o))
 
 -- a document was read
 pub record IsWhole (j : Judged) : Type 0 where
   pub read : IsRead (source_of j) j.template
-  pub names : HasNames j.names.items j.template
+  pub names : HasNames j.names j.template
   pub page : kept_page j.page ≡ page_of j.template
 
 -- a document of this name and text, for which nothing was reported yet
@@ -103,7 +102,7 @@ is_reported_in file j = list_any (is_about file) j.reported.items
 
 abbrev pub marked : List (List ℕ) → List ℕ → Judged → Judged
 marked touched file j =
-    record j { stale = if list_any (λ n. is_among n (map string_bytes j.names.items)) touched || is_reported_in file j then true else j.stale }
+    record j { stale = if list_any (λ n. is_among n j.names) touched || is_reported_in file j then true else j.stale }
 
 -- all are marked if these differ: whether one may define more components than its tree, before and now
 abbrev pub made_stale : Judged → Judged
@@ -129,7 +128,7 @@ marked_since (Some was) js = marked_if was (are_open (templates_of js)) js
 
 -- the names have all names of components in stale documents
 abbrev pub NeedsAll : BTreeSet (Bor (List ℕ)) → List Judged → Type 0
-NeedsAll needed js = AllByRecursion (λ j. j.stale ≡ true → (n : List ℕ) → is_among n (map string_bytes j.names.items) ≡ true → contains_name needed n ≡ true) js
+NeedsAll needed js = AllByRecursion (λ j. j.stale ≡ true → (n : List ℕ) → is_among n j.names ≡ true → contains_name needed n ≡ true) js
 
 -- ---- what stays true, whatever is read
 

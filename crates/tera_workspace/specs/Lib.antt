@@ -8,6 +8,7 @@ pub mod Heads
 pub mod Judgements
 pub mod Kept
 pub mod KeptSites
+pub mod NameBits
 pub mod Names
 pub mod Near
 pub mod SiteValues

@@ -11,6 +11,7 @@ ghost use Rattle.tera_workspace.specs.Sources.{AreAscending};
 
 use crate::diagnostics::Diagnostic;
 use crate::lined_text::LinedText;
+use crate::name_list::NameList;
 use std::alloc::{AllocError, Global};
 use tera_check::{Template, calls_of, is_open, read_template, tree_of};
 use tera_parser::ast::{ComponentCall, ComponentDefinition};
@@ -26,7 +27,7 @@ pub(crate) struct Judged {
     pub(crate) text: LinedText,
     pub(crate) template: Template,
     // The names of the components that it defines and calls, in their order.
-    pub(crate) names: Vec<String>,
+    pub(crate) names: NameList,
     // What it says of other templates by their names.
     pub(crate) page: KeptPage,
     // Whether its findings may be others than those that were reported.
@@ -43,6 +44,7 @@ impl Judged {
         let template = read_template(alloc, name, text, MOST_FAULTS)?;
         let names = names_of(alloc, &template)?;
         let page = KeptPage::of(alloc, &template)?;
+        let names = NameList::of(names);
         Ok(Judged {
             text: lined,
             template,
@@ -76,7 +78,7 @@ pub(crate) fn push_defined(
 }
 
 fn names_of(alloc: Global, template: &Template) -> Result<Vec<String>, AllocError>
-    ensures { IfOk result (λ v. HasNames v.items template.now) }
+    ensures { IfOk result (λ v. HasNames (map string_bytes v.items) template.now) }
 {
     let mut names = Vec::new(alloc);
     let Some(output) = tree_of(template) else {

@@ -8,10 +8,10 @@
 //! or between other markers. Of a site it keeps what is around each of its templates, and finds what is wrong with their names.
 //!
 //! In the order of reading: specs `Sources`, `Diagnostics`, `Fresh`, `Workspaces`; `lined_text` and `diagnostics`;
-//! `judged`, a document as it was checked; `reading`, and `touched`, what a new text changes for others; `catalogue`;
-//! `news`; specs `Components`, `Judgements`, `Unregistered` and `Definitions`; `workspace`; `queries`; `judgements`;
-//! `unknown`; specs `SiteValues`, `Sites` and `sites`; `near`, for one document that changed; then `named`; specs
-//! `Between` and `between`.
+//! `name_list`; `judged`, a document as it was checked; `reading`, and `touched`, what a new text changes for others;
+//! `catalogue`; `news`; specs `Components`, `Judgements`, `Unregistered` and `Definitions`; `workspace`; `queries`;
+//! `judgements`; `unknown`; specs `SiteValues`, `Sites` and `sites`; `near`, for one document that changed; then
+//! `named`; specs `Between` and `between`.
 #![tactic(auto)]
 
 mod between;
@@ -21,6 +21,7 @@ mod judged;
 mod judgements;
 pub mod laws;
 mod lined_text;
+mod name_list;
 mod named;
 mod near;
 mod news;

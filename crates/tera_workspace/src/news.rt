@@ -49,7 +49,7 @@ fn news_of_one(
     requires ordered { AreAscending (sources_of all.now.items) }
     requires is_open { is_open ≡ are_open (templates_of all.now.items) }
     requires known { judged.now.stale ≡ true → (n : List ℕ) →
-        is_among n (map string_bytes judged.now.names.items) ≡ true →
+        is_among n judged.now.names ≡ true →
         known_in catalogue.now n ≡ first_named n (defined_by 0 (templates_of all.now.items)) }
     ensures { IsWhole judged.now → IfOk result (λ news. IsNews encoding all.now.items number judged.now news) }
 {
@@ -68,7 +68,7 @@ fn needed_of(alloc: Global, all: &Vec<Judged>) -> Result<BTreeSet<&str>, AllocEr
     let mut needed = BTreeSet::new(alloc);
     for judged in all {
         if judged.stale {
-            for name in &judged.names {
+            for name in judged.names.as_slice() {
                 needed.insert(name.as_str())?;
             }
         }

@@ -8,6 +8,7 @@ ghost use Rattle.tera_workspace.specs.Names.{is_among};
 ghost use Rattle.tera_workspace.specs.Sources.{AreAscending, text_named};
 
 use crate::judged::{Judged, place_of, push_defined};
+use crate::name_list::NameList;
 use crate::touched::{mark, mark_if_opened, open_before, touched_names};
 use std::alloc::{AllocError, Global};
 use std::mem;
@@ -68,7 +69,8 @@ fn replace(
     let touched = touched_names(alloc, &all[number].template, &judged.template)?;
     let opened = is_open(&all[number].template);
     let was_open = open_before(all, opened, is_open(&judged.template));
-    mark(all, &touched, name);
+    let names = NameList::of(touched);
+    mark(all, &names, name);
     mem::swap(&mut judged.reported, &mut all[number].reported);
     all[number] = judged;
     mark_if_opened(all, was_open);
@@ -93,7 +95,8 @@ fn insert(
     push_defined(&mut touched, definitions_of(&judged.template))?;
     let was_open = open_before(all, false, is_open(&judged.template));
     all.insert(place, judged)?;
-    mark(all, &touched, name);
+    let names = NameList::of(touched);
+    mark(all, &names, name);
     mark_if_opened(all, was_open);
     Ok(())
 }

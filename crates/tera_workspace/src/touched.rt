@@ -11,6 +11,7 @@ ghost use Rattle.tera_workspace.specs.Kept.{is_reported_in, made_stale, marked, 
 ghost use Rattle.tera_workspace.specs.Names.{is_among};
 
 use crate::judged::{Judged, are_open, push_defined};
+use crate::name_list::NameList;
 use std::alloc::{AllocError, Global};
 use std::collections::BTreeSet;
 use tera_check::{Template, definitions_of};
@@ -167,8 +168,8 @@ fn have_one_head(one: &ComponentDefinition, other: &ComponentDefinition) -> bool
 
 /// Marks the documents that name one of these components, or have a finding with a place in this file. One that is
 /// marked already takes no time.
-pub(crate) fn mark(all: &mut Vec<Judged>, touched: &Vec<String>, file: &str)
-    ensures { all.new.items ≡ map (marked (map string_bytes touched.now.items) file.now) all.old.items }
+pub(crate) fn mark(all: &mut Vec<Judged>, touched: &NameList, file: &str)
+    ensures { all.new.items ≡ map (marked touched.now file.now) all.old.items }
 {
     for judged in all.iter_mut() {
         if becomes_stale(judged, touched, file) {
@@ -217,24 +218,12 @@ fn mark_all(all: &mut Vec<Judged>)
 }
 
 // Whether it is not marked, and is to be.
-fn becomes_stale(judged: &Judged, touched: &Vec<String>, file: &str) -> bool
+fn becomes_stale(judged: &Judged, touched: &NameList, file: &str) -> bool
     ensures { result ≡ (not judged.now.stale
-        && (list_any (λ n. is_among n (map string_bytes judged.now.names.items))
-        (map string_bytes touched.now.items) || is_reported_in file.now judged.now)) }
+        && (list_any (λ n. is_among n judged.now.names) touched.now
+        || is_reported_in file.now judged.now)) }
 {
-    !judged.stale && is_touched(judged, touched, file)
-}
-
-fn is_touched(judged: &Judged, touched: &Vec<String>, file: &str) -> bool
-    ensures { result ≡ (list_any (λ n. is_among n (map string_bytes judged.now.names.items))
-        (map string_bytes touched.now.items) || is_reported_in file.now judged.now) }
-{
-    for name in touched {
-        if judged.names.contains(name) {
-            return true;
-        }
-    }
-    is_reported_place_in(judged, file)
+    !judged.stale && (judged.names.has_any_of(touched) || is_reported_place_in(judged, file))
 }
 
 // Whether a finding that was reported for the document has a place in the file.

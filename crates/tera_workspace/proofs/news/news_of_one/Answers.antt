@@ -10,7 +10,7 @@ returns c = λ whole.
     let findings = c.in_ok-findings.findings.items in
     let (faults, are, found) = c.in_ok-findings.ensures.found in (
       findings,
-      found_here (known_in c.args.catalogue.now) c.args.is_open (templates_of c.args.all.now.items) c.args.number c.args.judged.now.template c.args.judged.now.names.items findings
+      found_here (known_in c.args.catalogue.now) c.args.is_open (templates_of c.args.all.now.items) c.args.number c.args.judged.now.template c.args.judged.now.names findings
           (c.requires.known stale) c.requires.is_open whole.names c.in_ok-findings.ensures.ordered faults are found,
       c.in_ok-diagnostics.ensures,
     )

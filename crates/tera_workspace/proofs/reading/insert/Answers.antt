@@ -22,7 +22,8 @@ returns-clause-kept c =
     ∙ ap (map (λ d. d.name)) c.definitions_of.ensures in
     let heads : (n : List ℕ) → is_among n touched ≡ false → HaveOneHeadIfAny None (definition_named n (definitions_of j.template)) =
     λ n free. all_pushed n [] (definitions_of j.template) [] [] touched refl refl pushed free in
-    let put : c.mark.new.all.items ≡ map (marked touched name) (insert js place j) = c.mark.ensures ∙ ap (map (marked touched name)) c.in_ok-insert.ensures.items in
+    let put : c.mark.new.all.items ≡ map (marked touched name) (insert js place j) =
+    c.mark.ensures ∙ ap (λ ns. map (marked ns name) c.insert.new.self.items) c.of-names.ensures ∙ ap (map (marked touched name)) c.in_ok-insert.ensures.items in
     let is : c.mark_if_opened.new.all.items ≡ now_marked js (map (marked touched name) (insert js place j)) =
     c.mark_if_opened.ensures ∙ (λ i. marked_since (c.open_before-was_open.ensures i) (put i))
     ∙ since_is js (map (marked touched name) (insert js place j)) false c.is_open.result (λ same. stays_insert touched name js place j c.requires.place.within (same ∙ c.is_open.ensures)) in
@@ -40,7 +41,8 @@ returns-clause-read c =
     ∙ ap (map (λ d. d.name)) c.definitions_of.ensures in
     let heads : (n : List ℕ) → is_among n touched ≡ false → HaveOneHeadIfAny None (definition_named n (definitions_of j.template)) =
     λ n free. all_pushed n [] (definitions_of j.template) [] [] touched refl refl pushed free in
-    let put : c.mark.new.all.items ≡ map (marked touched name) (insert js place j) = c.mark.ensures ∙ ap (map (marked touched name)) c.in_ok-insert.ensures.items in
+    let put : c.mark.new.all.items ≡ map (marked touched name) (insert js place j) =
+    c.mark.ensures ∙ ap (λ ns. map (marked ns name) c.insert.new.self.items) c.of-names.ensures ∙ ap (map (marked touched name)) c.in_ok-insert.ensures.items in
     let is : c.mark_if_opened.new.all.items ≡ now_marked js (map (marked touched name) (insert js place j)) =
     c.mark_if_opened.ensures ∙ (λ i. marked_since (c.open_before-was_open.ensures i) (put i))
     ∙ since_is js (map (marked touched name) (insert js place j)) false c.is_open.result (λ same. stays_insert touched name js place j c.requires.place.within (same ∙ c.is_open.ensures)) in

@@ -1,7 +1,7 @@
 use Rattle.std.proofs.Common.{◌≡◌, ◌∙◌, ℕ, List, false, map, get_or, string_bytes, sym, ap, subst}
 use Rattle.tera_templates.specs.Lost.{is_open}
 use Rattle.tera_workspace.specs.Heads.{HaveOneHeadIn}
-use Rattle.tera_workspace.specs.Kept.{StayKept, IsTextAt, marked_since}
+use Rattle.tera_workspace.specs.Kept.{StayKept, IsTextAt, marked, marked_since}
 use Rattle.tera_workspace.specs.Names.{is_among}
 use Rattle.tera_workspace.specs.declared.judged.Judged.{Judged}
 use Rattle.tera_workspace.proofs.ReadingLemmas.{put_is, put_kept, put_read, put_there}
@@ -20,7 +20,7 @@ returns-clause-kept c =
     subst (λ (x : Judged). (n : List ℕ) → is_among n touched ≡ false → HaveOneHeadIn n x.template j.template)
     c.index.ensures c.in_ok-touched.ensures in
     let put = put_is name touched js c.args.number j d c.requires.number c.requires.anew heads c.mark.new.all.items c.index_mut.result.now
-    (record c.index_mut.result.now { reported = c.swap.new.y }) c.swap.new.x c.mark.ensures c.index_mut.ensures.value c.swap.ensures.x_after in
+    (record c.index_mut.result.now { reported = c.swap.new.y }) c.swap.new.x (c.mark.ensures ∙ ap (λ ns. map (marked ns name) js) c.of-names.ensures) c.index_mut.ensures.value c.swap.ensures.x_after in
     let is : c.mark_if_opened.new.all.items ≡ now_marked js (put_there name touched js c.args.number j d c.requires.number c.requires.anew heads) =
     c.mark_if_opened.ensures ∙ (λ i. marked_since (c.open_before-was_open.ensures i) (put i))
     ∙ since_is js (put_there name touched js c.args.number j d c.requires.number c.requires.anew heads) c.is_open-opened.result c.is_open.result (λ same.
@@ -40,7 +40,7 @@ returns-clause-read c =
     subst (λ (x : Judged). (n : List ℕ) → is_among n touched ≡ false → HaveOneHeadIn n x.template j.template)
     c.index.ensures c.in_ok-touched.ensures in
     let put = put_is name touched js c.args.number j d c.requires.number c.requires.anew heads c.mark.new.all.items c.index_mut.result.now
-    (record c.index_mut.result.now { reported = c.swap.new.y }) c.swap.new.x c.mark.ensures c.index_mut.ensures.value c.swap.ensures.x_after in
+    (record c.index_mut.result.now { reported = c.swap.new.y }) c.swap.new.x (c.mark.ensures ∙ ap (λ ns. map (marked ns name) js) c.of-names.ensures) c.index_mut.ensures.value c.swap.ensures.x_after in
     let is : c.mark_if_opened.new.all.items ≡ now_marked js (put_there name touched js c.args.number j d c.requires.number c.requires.anew heads) =
     c.mark_if_opened.ensures ∙ (λ i. marked_since (c.open_before-was_open.ensures i) (put i))
     ∙ since_is js (put_there name touched js c.args.number j d c.requires.number c.requires.anew heads) c.is_open-opened.result c.is_open.result (λ same.

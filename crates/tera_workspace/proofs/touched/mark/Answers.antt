@@ -1,11 +1,11 @@
-use Rattle.std.proofs.Common.{◌≡◌, ◌∙◌, ◌<◌, length, get_or, map, true, false, string_bytes, sym, ap, arith}
+use Rattle.std.proofs.Common.{◌≡◌, ◌∙◌, ◌<◌, length, get_or, true, false, sym, ap, arith}
 use Rattle.tera_workspace.proofs.MarkLemmas.{marked_next}
 use Rattle.tera_workspace.proofs.touched.mark.Goals as goal
 use Rattle.tera_workspace.proofs.touched.mark.Goals.{then-becomes_stale, else-becomes_stale}
 
 pub loop-judged-preserved : goal.loop-judged-preserved
 loop-judged-preserved c =
-    let touched = map string_bytes c.args.touched.now.items in
+    let touched = c.args.touched.now in
     let file = c.args.file.now in
     let old = c.args.all.now.items in
     let items = c.loop-judged.judged-items in
