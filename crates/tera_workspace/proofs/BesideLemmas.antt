@@ -26,7 +26,7 @@ use Rattle.tera_findings.specs.declared.finding.Severity.{Severity}
 use Rattle.tera_templates.specs.declared.mended.Mended.{Mended}
 use Rattle.tera_templates.specs.declared.templates.Template.{Template}
 use Rattle.tera_check.proofs.TakenLemmas.{all_append, agree_both, unused_alike, taken_by_arguments}
-use Rattle.tera_workspace.specs.Beside.{IsBeside, AreAlikeBut, AreAlikeButIfAny, AgreeBut}
+use Rattle.tera_workspace.specs.Beside.{HasNoNoteIn, AreAlikeBut, AreAlikeButIfAny, AgreeBut}
 
 -- ---- findings that differ by notes about one file
 
@@ -40,7 +40,7 @@ span_of (FoundAs kind severity span text notes) = span
 pub record AreSameBut (file : List ℕ) (f g : FindingVal) : Type 0 where
   kind : kind_of f ≡ kind_of g
   span : span_of f ≡ span_of g
-  same : IsBeside file f → f ≡ g
+  same : HasNoNoteIn file f → f ≡ g
 
 abbrev pub AreEachSameBut : List ℕ → List FindingVal → List FindingVal → Type 0
 AreEachSameBut file [] [] = Unit {0}
@@ -61,7 +61,7 @@ each_append file [] (g ∷ gs) hs is h more = absurd h
 each_append file (f ∷ fs) [] hs is h more = absurd h
 each_append file (f ∷ fs) (g ∷ gs) hs is h more = (h.0, each_append file fs gs hs is h.1 more)
 
-each_same : (file : List ℕ) (fs gs : List FindingVal) → AreEachSameBut file fs gs → AllByRecursion (IsBeside file) fs → fs ≡ gs
+each_same : (file : List ℕ) (fs gs : List FindingVal) → AreEachSameBut file fs gs → AllByRecursion (HasNoNoteIn file) fs → fs ≡ gs
 each_same file [] [] h b = refl
 each_same file [] (g ∷ gs) h b = absurd h
 each_same file (f ∷ fs) [] h b = absurd h
@@ -77,14 +77,14 @@ module _ (file : List ℕ) (test : FindingVal → Bool)
   test_same (FoundAs kind severity span text notes) (FoundAs now another there other others) h =
       by_kind_and_span kind severity another span text other notes others ∙ λ i. test (FoundAs (h.kind i) another (h.span i) other others)
 
-  kept_same : (b c : Bool) (f g : FindingVal) (fs gs : List FindingVal) → b ≡ c → (IsBeside file f → f ≡ g) → (AllByRecursion (IsBeside file) fs → fs ≡ gs)
-      → AllByRecursion (IsBeside file) (cond b (f ∷ fs) fs) → cond b (f ∷ fs) fs ≡ cond c (g ∷ gs) gs
+  kept_same : (b c : Bool) (f g : FindingVal) (fs gs : List FindingVal) → b ≡ c → (HasNoNoteIn file f → f ≡ g) → (AllByRecursion (HasNoNoteIn file) fs → fs ≡ gs)
+      → AllByRecursion (HasNoNoteIn file) (cond b (f ∷ fs) fs) → cond b (f ∷ fs) fs ≡ cond c (g ∷ gs) gs
   kept_same true true f g fs gs e same more b = λ i. same b.0 i ∷ more b.1 i
   kept_same false false f g fs gs e same more b = more b
   kept_same true false f g fs gs e same more b = absurd (false_true (sym e))
   kept_same false true f g fs gs e same more b = absurd (false_true e)
 
-  filter_same : (fs gs : List FindingVal) → AreEachSameBut file fs gs → AllByRecursion (IsBeside file) (filter test fs) → filter test fs ≡ filter test gs
+  filter_same : (fs gs : List FindingVal) → AreEachSameBut file fs gs → AllByRecursion (HasNoNoteIn file) (filter test fs) → filter test fs ≡ filter test gs
   filter_same [] [] h b = refl
   filter_same [] (g ∷ gs) h b = absurd h
   filter_same (f ∷ fs) [] h b = absurd h
@@ -289,16 +289,16 @@ module _ (file : List ℕ) (number : ℕ) (known others : List ℕ → Option Kn
 
   -- so where nothing that is found says a place in the file, it is the same; and where nothing that is due does, that
   -- is
-  pub tree_but : (t : Template) (o : Output) → AgreeBut (names_in o) file number known others → AllByRecursion (IsBeside file) (tree_findings known number t o)
+  pub tree_but : (t : Template) (o : Output) → AgreeBut (names_in o) file number known others → AllByRecursion (HasNoNoteIn file) (tree_findings known number t o)
       → tree_findings known number t o ≡ tree_findings others number t o
   tree_but t o h b = each_same file (tree_findings known number t o) (tree_findings others number t o) (tree_each t o h) b
 
   pub due_but : (open_text : Bool) (t : Template) (o : Output) → AgreeBut (names_in o) file number known others
-      → AllByRecursion (IsBeside file) (due_among open_text t (tree_findings known number t o))
+      → AllByRecursion (HasNoNoteIn file) (due_among open_text t (tree_findings known number t o))
       → due_among open_text t (tree_findings known number t o) ≡ due_among open_text t (tree_findings others number t o)
   due_but open_text t o h b =
       let before = tree_findings known number t o in
       let now = tree_findings others number t o in
       let each = tree_each t o h in
-      let (unused, due) = all_append (IsBeside file) (unused_ignores open_text t before) (filter (is_due open_text t) before) b in
+      let (unused, due) = all_append (HasNoNoteIn file) (unused_ignores open_text t before) (filter (is_due open_text t) before) b in
       λ i. unused_same file open_text t before now each i ++ filter_same file (is_due open_text t) (due_by open_text t) before now each due i

@@ -18,7 +18,7 @@ use Rattle.tera_findings.specs.declared.finding.Finding.{Finding}
 use Rattle.tera_templates.specs.declared.templates.Template.{Template}
 use Rattle.tera_check.proofs.TakenLemmas.{all_append}
 use Rattle.text_edits.specs.declared.positions.Encoding.{Encoding}
-use Rattle.tera_workspace.specs.Beside.{AreAlikeButIfAny, AgreeBut, IsBeside}
+use Rattle.tera_workspace.specs.Beside.{AreAlikeButIfAny, AgreeBut, HasNoNoteIn}
 use Rattle.tera_workspace.specs.Fresh.{IsFound, IsReported}
 use Rattle.tera_workspace.specs.Heads.{HaveOneHeadIn}
 use Rattle.tera_workspace.specs.Kept.{name_of, source_of, sources_of, templates_of, reported_of, HasNames, IsWhole, IsCurrent, AreCurrent, is_reported_in, marked}
@@ -62,7 +62,7 @@ module _ (file : List ℕ) (k : ℕ) (ts us : List Template) where
 
   due_same : (open_text : Bool) (t : Template) (r : Option ParserOutput)
       → MatchOption r (Unit {0}) (λ o. AgreeBut (names_in (output_view o)) file k before now)
-      → AllByRecursion (IsBeside file) (due_in before open_text k t r) → due_in before open_text k t r ≡ due_in now open_text k t r
+      → AllByRecursion (HasNoNoteIn file) (due_in before open_text k t r) → due_in before open_text k t r ≡ due_in now open_text k t r
   due_same open_text t None agree beside = refl
   due_same open_text t (Some o) agree beside = due_but file k before now open_text t (output_view o) agree beside
 
@@ -72,7 +72,7 @@ module _ (file : List ℕ) (k : ℕ) (ts us : List Template) where
   found_by t fs none opened agree found =
       let due = due_findings before (are_open ts) k t in
       let beside = all_beside file (found.faults ++ due) (list_any-IsPermutation (reports file) (found.faults ++ due) (map finding_view fs) found.found ∙ none) in
-      let (_, due_beside) = all_append (IsBeside file) found.faults due beside in
+      let (_, due_beside) = all_append (HasNoNoteIn file) found.faults due beside in
       found_if ts us k k t fs found (due_same (are_open ts) t (tree_of t) agree due_beside ∙ ap (λ b. due_findings now b k t) opened)
 
   pub still_reported : (e : Encoding) (ss rs : List Source) (j : Judged) (touched : List (List ℕ))

@@ -1,5 +1,4 @@
 pub mod AlikeLemmas
-pub mod AnewLemmas
 pub mod BelowLemmas
 pub mod BesideLemmas
 pub mod BetweenLemmas
@@ -11,13 +10,18 @@ pub mod FoundLemmas
 pub mod HeadLemmas
 pub mod InsertLemmas
 pub mod JudgementLemmas
-pub mod KnownLemmas
 pub mod KeptSiteLemmas
+pub mod KnownLemmas
 pub mod LeftLemmas
 pub mod MarkLemmas
 pub mod NameListLemmas
 pub mod NameSets
 pub mod NamedLemmas
+pub mod NearNames
+pub mod NearSteps
+pub mod NeededLemmas
+pub mod NeedsLemmas
+pub mod NewlyReadLemmas
 pub mod NewsLemmas
 pub mod NumberLemmas
 pub mod OpenedLemmas
@@ -34,8 +38,4 @@ pub mod SearchLemmas
 pub mod SettleLemmas
 pub mod TouchedLemmas
 pub mod UnregisteredLemmas
-pub mod NearSteps
-pub mod NearNames
-pub mod NeededLemmas
-pub mod NeedsLemmas
 pub mod WorkspaceLemmas

@@ -5,7 +5,7 @@ use Rattle.std.specs.Str.{bytes_eq}
 use Rattle.std.proofs.lemmas.Slice.Eq.{bytes_eq-Decides}
 use Rattle.tera_findings.specs.Findings.{NoteVal, NoteOf, FindingVal, FoundAs}
 use Rattle.text_edits.specs.declared.positions.Encoding.{Encoding}
-use Rattle.tera_workspace.specs.Beside.{IsElsewhere, IsBeside}
+use Rattle.tera_workspace.specs.Beside.{IsElsewhere, HasNoNoteIn}
 use Rattle.tera_workspace.specs.Diagnostics.{RelatedVal, DiagnosticVal, diagnostic_view, related_view, related_of, diagnostic_of, position_in}
 use Rattle.tera_workspace.specs.Kept.{is_about}
 use Rattle.tera_workspace.specs.Sources.{Source, text_named}
@@ -55,11 +55,11 @@ module _ (e : Encoding) (file : List ℕ) (before after : List Source) (same : (
   notes_same [] h = refl
   notes_same (note ∷ notes) h = λ i. note_same note h.0 i ∷ notes_same notes h.1 i
 
-  finding_same : (text : List ℕ) (f : FindingVal) → IsBeside file f → diagnostic_of e after text f ≡ diagnostic_of e before text f
+  finding_same : (text : List ℕ) (f : FindingVal) → HasNoNoteIn file f → diagnostic_of e after text f ≡ diagnostic_of e before text f
   finding_same text (FoundAs kind severity span message notes) h =
       ap (λ related. record { kind = kind; severity = severity; start = position_in e text span.range.start; end = position_in e text span.range.end; message = message; related = related }) (notes_same notes h)
 
-  pub findings_same : (text : List ℕ) (fs : List FindingVal) → AllByRecursion (IsBeside file) fs → map (diagnostic_of e after text) fs ≡ map (diagnostic_of e before text) fs
+  pub findings_same : (text : List ℕ) (fs : List FindingVal) → AllByRecursion (HasNoNoteIn file) fs → map (diagnostic_of e after text) fs ≡ map (diagnostic_of e before text) fs
   findings_same text [] h = refl
   findings_same text (f ∷ fs) h = λ i. finding_same text f h.0 i ∷ findings_same text fs h.1 i
 
@@ -76,10 +76,10 @@ notes_beside file [] h = tt
 notes_beside file (NoteOf of_file span message ∷ notes) h =
     (apart of_file file (first_false (bytes_eq of_file file) (list_any (note_in file) notes) h), notes_beside file notes (second_false (bytes_eq of_file file) (list_any (note_in file) notes) h))
 
-one_beside : (file : List ℕ) (f : FindingVal) → reports file f ≡ false → IsBeside file f
+one_beside : (file : List ℕ) (f : FindingVal) → reports file f ≡ false → HasNoNoteIn file f
 one_beside file (FoundAs kind severity span message notes) h = notes_beside file notes h
 
-pub all_beside : (file : List ℕ) (fs : List FindingVal) → list_any (reports file) fs ≡ false → AllByRecursion (IsBeside file) fs
+pub all_beside : (file : List ℕ) (fs : List FindingVal) → list_any (reports file) fs ≡ false → AllByRecursion (HasNoNoteIn file) fs
 all_beside file [] h = tt
 all_beside file (f ∷ fs) h =
     (one_beside file f (first_false (reports file f) (list_any (reports file) fs) h), all_beside file fs (second_false (reports file f) (list_any (reports file) fs) h))

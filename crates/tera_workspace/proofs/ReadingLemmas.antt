@@ -13,7 +13,7 @@ use Rattle.tera_templates.specs.Lost.{are_open}
 use Rattle.tera_templates.specs.Templates.{definitions_of}
 use Rattle.tera_workspace.specs.Diagnostics.{DiagnosticVal}
 use Rattle.tera_workspace.specs.Heads.{definition_named, HaveOneHeadIfAny, HaveOneHeadIn}
-use Rattle.tera_workspace.specs.Kept.{source_of, sources_of, templates_of, reported_of, reported_named, has_name, IsNumbered, IsNewPlace, IsWhole, IsAnew, AllWhole, AreCurrent, StayKept, IsTextAt, marked}
+use Rattle.tera_workspace.specs.Kept.{source_of, sources_of, templates_of, reported_of, reported_named, has_name, IsNumbered, IsNewPlace, IsWhole, IsNewlyRead, AllWhole, AreCurrent, StayKept, IsTextAt, marked}
 use Rattle.tera_workspace.specs.Names.{is_among}
 use Rattle.tera_workspace.specs.Sources.{Source, AreInOrder, AreAscending, text_named}
 use Rattle.tera_workspace.specs.declared.diagnostics.Diagnostic.{Diagnostic}
@@ -202,7 +202,7 @@ module _ (name : List ℕ) (j : Judged) (named : string_bytes j.template.file �
 
 -- ---- another text of one that is among them
 
-module _ (name : List ℕ) (touched : List (List ℕ)) (js : List Judged) (i : ℕ) (j d : Judged) (number : IsNumbered name js i) (anew : IsAnew name j.text j)
+module _ (name : List ℕ) (touched : List (List ℕ)) (js : List Judged) (i : ℕ) (j d : Judged) (number : IsNumbered name js i) (newly_read : IsNewlyRead name j.text j)
     (heads : (n : List ℕ) → is_among n touched ≡ false → HaveOneHeadIn n (get_or js i d).template j.template) where
   -- it keeps what was reported
   abbrev pub with_reported : Judged
@@ -212,7 +212,7 @@ module _ (name : List ℕ) (touched : List (List ℕ)) (js : List Judged) (i : �
   put_there = set (map (marked touched name) js) i with_reported
 
   whole_reported : IsWhole with_reported
-  whole_reported = record { read = anew.whole.read; names = anew.whole.names; page = anew.whole.page }
+  whole_reported = record { read = newly_read.whole.read; names = newly_read.whole.names; page = newly_read.whole.page }
 
   reported_same : reported_of with_reported ≡ reported_of (get_or (map (marked touched name) js) i with_reported)
   reported_same = ap reported_of (default_same js i d with_reported number.within) ∙ sym (ap reported_of (marked_at touched name js i with_reported number.within))
@@ -221,14 +221,14 @@ module _ (name : List ℕ) (touched : List (List ℕ)) (js : List Judged) (i : �
   put_stays = record {
     whole = λ w. set_whole (map (marked touched name) js) i with_reported whole_reported (marked_whole touched name js w);
     current = λ e w opened current.
-        subst (λ file. AreCurrent e (set (map (marked touched file) js) i with_reported)) anew.named
-        (replaced_current e touched js i with_reported d number.within (equal (string_bytes (get_or js i d).template.file) name (number.is d) ∙ sym anew.named) anew.stale w heads
-        (subst (λ file. are_open (templates_of js) ≡ are_open (templates_of (set (map (marked touched file) js) i with_reported))) (sym anew.named) opened) current);
+        subst (λ file. AreCurrent e (set (map (marked touched file) js) i with_reported)) newly_read.named
+        (replaced_current e touched js i with_reported d number.within (equal (string_bytes (get_or js i d).template.file) name (number.is d) ∙ sym newly_read.named) newly_read.stale w heads
+        (subst (λ file. are_open (templates_of js) ≡ are_open (templates_of (set (map (marked touched file) js) i with_reported))) (sym newly_read.named) opened) current);
     ordered = λ o. subst AreInOrder (sym (names_set (map (marked touched name) js) i with_reported
-        (ap (λ x. string_bytes x.template.file) (marked_at touched name js i with_reported number.within) ∙ equal (string_bytes (get_or js i with_reported).template.file) name (number.is with_reported) ∙ sym anew.named)
+        (ap (λ x. string_bytes x.template.file) (marked_at touched name js i with_reported number.within) ∙ equal (string_bytes (get_or js i with_reported).template.file) name (number.is with_reported) ∙ sym newly_read.named)
         ∙ ap (map (λ (s : Source). s.name)) (marked_sources touched name js))) o;
     reported = λ n.
-        reported_set name with_reported anew.named (map (marked touched name) js) i (omega (arith, number.within, marked_length touched name js))
+        reported_set name with_reported newly_read.named (map (marked touched name) js) i (omega (arith, number.within, marked_length touched name js))
         (ap (has_name name) (marked_at touched name js i with_reported number.within) ∙ number.is with_reported)
         reported_same n
         ∙ marked_reported n touched name js;
@@ -237,7 +237,7 @@ module _ (name : List ℕ) (touched : List (List ℕ)) (js : List Judged) (i : �
   put_text : IsTextAt name j.text js put_there
   put_text n =
       ap (text_named n) (sources_set (map (marked touched name) js) i with_reported ∙ ap (λ ss. set ss i (source_of j)) (marked_sources touched name js))
-      ∙ text_set name j anew.named js i number.within (number.is j) (λ m h. number.first m j h) n
+      ∙ text_set name j newly_read.named js i number.within (number.is j) (λ m h. number.first m j h) n
 
   pub put_kept : StayKept js (now_marked js put_there)
   put_kept = kept_if js put_there put_stays
@@ -265,22 +265,22 @@ text_stays name text js i d number same n =
 
 -- ---- one more
 
-module _ (name : List ℕ) (touched : List (List ℕ)) (js : List Judged) (i : ℕ) (j : Judged) (place : IsNewPlace name js i) (anew : IsAnew name j.text j)
+module _ (name : List ℕ) (touched : List (List ℕ)) (js : List Judged) (i : ℕ) (j : Judged) (place : IsNewPlace name js i) (newly_read : IsNewlyRead name j.text j)
     (heads : (n : List ℕ) → is_among n touched ≡ false → HaveOneHeadIfAny None (definition_named n (definitions_of j.template))) where
   text_more : (n : List ℕ) → text_named n (sources_of (insert js i j)) ≡ cond (bytes_eq name n) j.text (text_named n (sources_of js))
-  text_more n = text_insert name j anew.named js i place.within (λ m h. place.none m j h) n
+  text_more n = text_insert name j newly_read.named js i place.within (λ m h. place.none m j h) n
 
   abbrev pub inserted : List Judged
   inserted = map (marked touched name) (insert js i j)
 
   insert_stays : StayIf js inserted
   insert_stays = record {
-    whole = λ w. marked_whole touched name (insert js i j) (insert_whole js i j place.within anew.whole w);
+    whole = λ w. marked_whole touched name (insert js i j) (insert_whole js i j place.within newly_read.whole w);
     current = λ e w opened current.
-        inserted_current e name touched js i j place.within anew.stale w heads
+        inserted_current e name touched js i j place.within newly_read.stale w heads
         (λ n other. text_more n ∙ ap (λ b. cond b j.text (text_named n (sources_of js))) (differ name n (λ same. other (sym same)))) opened current;
-    ordered = λ o. subst AreAscending (sym (marked_sources touched name (insert js i j))) (insert_sorted name j anew.named js i place o);
-    reported = λ n. marked_reported n touched name (insert js i j) ∙ reported_insert name j anew.named js i place.within anew.unreported (λ m h. place.none m j h) n;
+    ordered = λ o. subst AreAscending (sym (marked_sources touched name (insert js i j))) (insert_sorted name j newly_read.named js i place o);
+    reported = λ n. marked_reported n touched name (insert js i j) ∙ reported_insert name j newly_read.named js i place.within newly_read.unreported (λ m h. place.none m j h) n;
   }
 
   insert_text : IsTextAt name j.text js inserted

@@ -9,8 +9,8 @@ abbrev pub IsElsewhere : List ℕ → NoteVal → Type 0
 IsElsewhere file (NoteOf of_file span text) = of_file ≢ file
 
 -- no note of the finding is about this file
-abbrev pub IsBeside : List ℕ → FindingVal → Type 0
-IsBeside file (FoundAs kind severity span text notes) = AllByRecursion (IsElsewhere file) notes
+abbrev pub HasNoNoteIn : List ℕ → FindingVal → Type 0
+HasNoNoteIn file (FoundAs kind severity span text notes) = AllByRecursion (IsElsewhere file) notes
 
 -- components with which the same is found, except that their spans in this file may differ
 pub record AreAlikeBut (file : List ℕ) (number : ℕ) (k j : KnownVal) : Type 0 where

@@ -72,7 +72,7 @@ pub record IsWhole (j : Judged) : Type 0 where
   pub page : kept_page j.page ≡ page_of j.template
 
 -- a document of this name and text, for which nothing was reported yet
-pub record IsAnew (name text : List ℕ) (j : Judged) : Type 0 where
+pub record IsNewlyRead (name text : List ℕ) (j : Judged) : Type 0 where
   pub named : string_bytes j.template.file ≡ name
   pub texted : j.text ≡ text
   pub whole : IsWhole j

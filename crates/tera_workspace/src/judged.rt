@@ -6,7 +6,7 @@ ghost use Rattle.tera_tree.specs.View.{definition_view};
 ghost use Rattle.tera_check.specs.Alike.{name_called};
 ghost use Rattle.tera_templates.specs.Lost.{are_open};
 ghost use Rattle.tera_rules.specs.Pending.{seen};
-ghost use Rattle.tera_workspace.specs.Kept.{HasNames, IsAnew, IsNumbered, IsNewPlace, sources_of, templates_of};
+ghost use Rattle.tera_workspace.specs.Kept.{HasNames, IsNewlyRead, IsNumbered, IsNewPlace, sources_of, templates_of};
 ghost use Rattle.tera_workspace.specs.Sources.{AreAscending};
 
 use crate::diagnostics::Diagnostic;
@@ -38,7 +38,7 @@ pub(crate) struct Judged {
 impl Judged {
     /// Reads the document of this name and text, for which nothing was reported yet.
     pub(crate) fn read(alloc: Global, name: &str, text: &str) -> Result<Judged, AllocError>
-        ensures { IfOk result (IsAnew name.now text.now) }
+        ensures { IfOk result (IsNewlyRead name.now text.now) }
     {
         let lined = LinedText::of(alloc, text)?;
         let template = read_template(alloc, name, text, MOST_FAULTS)?;

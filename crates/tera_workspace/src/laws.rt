@@ -7,7 +7,7 @@ ghost use Rattle.tera_check.specs.Alike.{names_in};
 ghost use Rattle.tera_rules.specs.Judged.{KnownVal};
 ghost use Rattle.tera_check.specs.Named.{tree_findings};
 ghost use Rattle.tera_templates.specs.declared.templates.Template.{Template};
-ghost use Rattle.tera_workspace.specs.Beside.{IsBeside, AgreeBut};
+ghost use Rattle.tera_workspace.specs.Beside.{HasNoNoteIn, AgreeBut};
 ghost use Rattle.tera_workspace.specs.Components.{components_of, parameters_of_name};
 ghost use Rattle.tera_workspace.specs.Definitions.{DefinitionVal, definition_of_name, IsDefinedIn, IsParameterIn};
 ghost use Rattle.tera_workspace.specs.Kept.{sources_of, templates_of};
@@ -20,7 +20,7 @@ ghost use Rattle.tera_workspace.specs.declared.workspace.Workspace.{Workspace};
 pub fn beside()
     ensures { (known others : List ℕ → Option KnownVal) (file : List ℕ) (number : ℕ)
         (t : Template) (o : Output) → AgreeBut (names_in o) file number known others →
-        AllByRecursion (IsBeside file) (tree_findings known number t o) →
+        AllByRecursion (HasNoNoteIn file) (tree_findings known number t o) →
         tree_findings known number t o ≡ tree_findings others number t o }
 {}
 

@@ -3,7 +3,7 @@
 ghost use Rattle.std.specs.Prelude.{◌≡◌, ℕ, List, [], true, false, map, string_bytes, unwrap_or, OnOk, OnErr};
 ghost use Rattle.text_edits.specs.Documents.{text_of};
 ghost use Rattle.text_edits.specs.Stored.{document_of};
-ghost use Rattle.tera_workspace.specs.Kept.{sources_of, IsAnew, IsNumbered, IsNewPlace, StayKept, IsTextAt};
+ghost use Rattle.tera_workspace.specs.Kept.{sources_of, IsNewlyRead, IsNumbered, IsNewPlace, StayKept, IsTextAt};
 ghost use Rattle.tera_workspace.specs.Names.{is_among};
 ghost use Rattle.tera_workspace.specs.Sources.{AreAscending, text_named};
 
@@ -60,7 +60,7 @@ fn replace(
     name: &str,
 ) -> Result<(), AllocError>
     requires number { IsNumbered name.now all.old.items number }
-    requires anew { IsAnew name.now judged.text judged }
+    requires newly_read { IsNewlyRead name.now judged.text judged }
     ensures kept { StayKept all.old.items all.new.items }
     ensures read { OnOk result (IsTextAt name.now judged.text all.old.items all.new.items) }
     ensures err { OnErr result (all.new.items ≡ all.old.items) }
@@ -86,7 +86,7 @@ fn insert(
     name: &str,
 ) -> Result<(), AllocError>
     requires place { IsNewPlace name.now all.old.items place }
-    requires anew { IsAnew name.now judged.text judged }
+    requires newly_read { IsNewlyRead name.now judged.text judged }
     ensures kept { StayKept all.old.items all.new.items }
     ensures read { OnOk result (IsTextAt name.now judged.text all.old.items all.new.items) }
     ensures err { OnErr result (all.new.items ≡ all.old.items) }

@@ -27,7 +27,7 @@ returns-clause-kept c =
     let is : c.mark_if_opened.new.all.items ≡ now_marked js (map (marked touched name) (insert js place j)) =
     c.mark_if_opened.ensures ∙ (λ i. marked_since (c.open_before-was_open.ensures i) (put i))
     ∙ since_is js (map (marked touched name) (insert js place j)) false c.is_open.result (λ same. stays_insert touched name js place j c.requires.place.within (same ∙ c.is_open.ensures)) in
-    subst (StayKept js) (sym is) (insert_kept name touched js place j c.requires.place c.requires.anew heads)
+    subst (StayKept js) (sym is) (insert_kept name touched js place j c.requires.place c.requires.newly_read heads)
 
 pub returns-clause-read : goal.returns-clause-read
 returns-clause-read c =
@@ -46,7 +46,7 @@ returns-clause-read c =
     let is : c.mark_if_opened.new.all.items ≡ now_marked js (map (marked touched name) (insert js place j)) =
     c.mark_if_opened.ensures ∙ (λ i. marked_since (c.open_before-was_open.ensures i) (put i))
     ∙ since_is js (map (marked touched name) (insert js place j)) false c.is_open.result (λ same. stays_insert touched name js place j c.requires.place.within (same ∙ c.is_open.ensures)) in
-    subst (IsTextAt name j.text js) (sym is) (insert_read name touched js place j c.requires.place c.requires.anew heads)
+    subst (IsTextAt name j.text js) (sym is) (insert_read name touched js place j c.requires.place c.requires.newly_read heads)
 
 pub returns-in_err-insert-clause-kept : goal.returns-in_err-insert-clause-kept
 returns-in_err-insert-clause-kept c = subst (StayKept c.args.all.now.items) (sym c.in_err-insert.ensures.items) (stay_same c.args.all.now.items)

@@ -18,7 +18,7 @@ use Rattle.tera_templates.specs.declared.templates.Template.{Template}
 use Rattle.tera_site.specs.Kept.{kept_page}
 use Rattle.tera_site.specs.Pages.{page_of}
 use Rattle.tera_workspace.specs.Fresh.{IsRead, most_faults}
-use Rattle.tera_workspace.specs.Kept.{reported_of, HasNames, IsAnew}
+use Rattle.tera_workspace.specs.Kept.{reported_of, HasNames, IsNewlyRead}
 use Rattle.tera_workspace.specs.Sources.{Source}
 use Rattle.tera_workspace.specs.declared.judged.Judged.{Judged}
 
@@ -39,9 +39,9 @@ pub is_read : (name text : List ℕ) (t : Template) → string_bytes t.file ≡ 
 is_read name text t file sound complete fault refusal lost notes unmended mended places ignores hidden =
     record { file = file; sound = sound; complete = complete; fault = fault; refusal = refusal; lost = lost; notes = notes; unmended = unmended; mended = mended; places = places; ignores = ignores; hidden = hidden }
 
-pub is_anew : (name text : List ℕ) (j : Judged) → j.text ≡ text → IsRead (record { name = name; text = text }) j.template
-    → HasNames j.names j.template → kept_page j.page ≡ page_of j.template → j.stale ≡ true → reported_of j ≡ [] → IsAnew name text j
-is_anew name text j same read names page stale unreported =
+pub is_newly_read : (name text : List ℕ) (j : Judged) → j.text ≡ text → IsRead (record { name = name; text = text }) j.template
+    → HasNames j.names j.template → kept_page j.page ≡ page_of j.template → j.stale ≡ true → reported_of j ≡ [] → IsNewlyRead name text j
+is_newly_read name text j same read names page stale unreported =
     record {
       named = read.file;
       texted = same;
