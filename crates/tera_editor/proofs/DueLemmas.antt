@@ -1,4 +1,4 @@
--- Names of which it is to be asked whether there is a file, as these are said one by one.
+-- Names whose files are to be looked for, as this is done one by one.
 use Rattle.std.proofs.Common.{◌≡◌, ◌∙◌, ◌<◌, ◌++◌, ◌∷◌, [], ◌||◌, ◌&&◌, ℕ, zero, suc, List, Bool, true, false, cond, length, get_or, map, filter, flat_map, Some, String, string_bytes, refl, sym, ap, subst, arith}
 use Rattle.std.specs.BTreeMap.{is_at}
 use Rattle.std.specs.Cmp.Lexicographic.{slice_cmp}
@@ -19,7 +19,7 @@ use Rattle.tera_editor.specs.declared.sites.Sites.{Sites}
 abbrev pub is_used : List ℕ → List ℕ → UsedVal → Bool
 is_used root n u = bytes_eq root u.root && bytes_eq u.name n
 
--- each name that is to be asked is among these
+-- each name for which the caller has to look is among these
 abbrev pub AreDueAmong : List UsedVal → Sites → Type 0
 AreDueAmong us s =
     (k : ℕ) (d : FolderSite) (n : List ℕ) → k < length s.all.items → is_due_in (presence_in (get_or s.all.items k d) n) ≡ true

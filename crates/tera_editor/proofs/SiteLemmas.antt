@@ -394,7 +394,7 @@ pub record AssumedSoFar (end : ℕ) (some : Bool) (s t : Sites) : Type 0 where
   pub same : some ≡ false → t.all.items ≡ s.all.items
   pub said : some ≡ false → EachBelow IsSaid end t.all.items
 
--- .. of which something is said of a name
+-- .. in which it was set for a name whether there may be a file
 pub record SaidSoFar (end : ℕ) (u : UsedVal) (there : Bool) (s t : Sites) : Type 0 where
   pub around : AreAround [] s t
   pub given : AreGiven s → AreGiven t
@@ -498,7 +498,7 @@ assumed_some ns bs some some_now was news now m n p is then_is stays h = record 
   news = λ e. then_is;
 }
 
--- .. or it was said of one more that there is none
+-- .. or one more is known to have no file
 pub assumed_said : (ns : List (List ℕ)) (name : List ℕ) (some was now : Bool) (m n : Presences) → is_absent_in n name ≡ true → IsAssumedSoFar ns some m n was now → IsAssumedSoFar (ns ++ name ∷ []) some m n was now
 assumed_said ns name some was now m n absent h = record {
   none = h.none;
@@ -742,7 +742,7 @@ asked_given x o before after asked g news q =
 
 -- ---- names that are set
 
--- what is said of a name is not news if there might be a file as before
+-- what is set for a name is not news if there might be a file as before
 pub said_given : (name : List ℕ) (x y : FolderSite) (there : Bool) → IsOrdered string_cmp x.presences → IsOrdered string_cmp y.presences → y.site ≡ x.site
     → IsPresenceAt name (Some (record { is_there = there; is_due = false })) x y → (y.has_news ≡ false → (x.has_news ≡ false) × (is_there_in (presence_in x name) ≡ there)) → IsGiven x → IsGiven y
 said_given name x y there before after site set no_news g news q =

@@ -63,14 +63,14 @@ Presences = BTreeMap (String Global) Presence
 abbrev pub presence_in : FolderSite → List ℕ → Option Presence
 presence_in x n = get_by_text x.presences n
 
--- it was said of a name that there is no file; and of each of these names
+-- it is known of a name that there is no file; and of each of these names
 abbrev pub is_absent_in : Presences → List ℕ → Bool
 is_absent_in presences n = option_map_or (λ p. not p.is_there) (get_by_text presences n) false
 
 abbrev pub AreAbsent : List (List ℕ) → Presences → Type 0
 AreAbsent names presences = (n : List ℕ) → is_among n names ≡ true → is_absent_in presences n ≡ true
 
--- there may be a file of it: templates use it, and it was not said
+-- there may be a file of it: templates use it, and it is not known that there is none
 abbrev pub is_there_as : List ℕ → String Global × Presence → Bool
 is_there_as n (name, presence) = presence.is_there && bytes_eq (string_bytes name) n
 
@@ -81,7 +81,7 @@ may_be x n = list_any (is_there_as n) x.presences.entries
 abbrev pub IsPresenceAt : List ℕ → Option Presence → FolderSite → FolderSite → Type 0
 IsPresenceAt name presence old now = (n : List ℕ) → presence_in now n ≡ cond (bytes_eq name n) presence (presence_in old n)
 
--- What is known of a name stays. If nothing was, there may be a file from now on, and that is to be asked.
+-- What is known of a name stays. If nothing was, there may be a file from now on, and the caller has to look for it.
 abbrev pub new_presence : Presence
 new_presence = record { is_there = true; is_due = true }
 
@@ -102,7 +102,7 @@ abbrev pub asked_if : Bool → Presence → Presence
 asked_if true p = asked_again p
 asked_if false p = p
 
--- a name that is to be asked, and the root below which its file would be
+-- a name whose file is looked for, and the root below which the file would be
 pub record UsedVal : Type 0 where
   pub root : List ℕ
   pub name : List ℕ
@@ -122,7 +122,7 @@ due_in x = map (used_of x.site.root) (filter is_entry_due x.presences.entries)
 abbrev pub due_of_sites : Sites → List UsedVal
 due_of_sites s = flat_map due_in s.all.items
 
--- whether it is to be asked if there is a file of a name; and that it is to be asked of none
+-- whether the caller has to look for the file of a name; and it has to look for none
 abbrev pub is_due_in : Option Presence → Bool
 is_due_in p = option_map_or (λ q. q.is_due) p false
 
@@ -138,7 +138,7 @@ AreFittingBelow end w xs = (k : ℕ) (d : FolderSite) → k < end → FitsWorksp
 abbrev pub AreFitting : Workspace → Sites → Type 0
 AreFitting w s = AreFittingBelow (length s.all.items) w s.all.items
 
--- It was said of each name that is lacking that there is no file: of those that its templates use, and that neither a
+-- It is known of each lacking name that there is no file. These are the names that its templates use, and that neither a
 -- template nor another file has.
 abbrev pub IsSaid : FolderSite → Type 0
 IsSaid x = AreAbsent x.site.lacking x.presences
@@ -184,7 +184,7 @@ pub record AddsRenewed (names_old names_now : List (List ℕ)) (old now : Sites)
   pub around : AreAround more old now
   pub known : KeepsKnown old now
 
--- it is said of a name below a root, for each site there
+-- it is set for a name below a root, for each site there
 abbrev pub is_below : UsedVal → FolderSite → Bool
 is_below u x = bytes_eq x.site.root u.root
 
@@ -197,7 +197,7 @@ IsPresenceOf u there old now =
     (k : ℕ) (d : FolderSite) → k < length old.all.items
     → IsPresenceIf (is_below u (slice_index_or old.all.items k d)) u there (slice_index_or old.all.items k d) (slice_index_or now.all.items k d)
 
--- a name that is lacking is to be asked again, and one that may have a file; of others nothing is known then
+-- the caller has to look again for a lacking name, and for one that may have a file; the others are forgotten
 abbrev pub is_asked_again : FolderSite → List ℕ → Bool
 is_asked_again x n = is_there_in (presence_in x n) || is_among n x.site.lacking
 

@@ -27,9 +27,9 @@ pub struct UsedName {
 /// What is known of the file of a name.
 #[derive(Clone, Copy)]
 pub(crate) struct Presence {
-    /// Whether there may be one. Until it is said that there is none, there may be.
+    /// Whether there may be one: until the caller says that there is none.
     pub(crate) is_there: bool,
-    /// Whether that is to be asked.
+    /// Whether the caller has to look for it.
     pub(crate) is_due: bool,
 }
 
@@ -128,9 +128,8 @@ impl Sites {
         self.all.retain(|one| one.folder.as_str() != folder);
     }
 
-    /// Finds again what is around the templates of each site, where documents changed. The names of the documents
-    /// around which something else is are added to these. Then it was said of each name that is missing that there is
-    /// no file.
+    /// Finds again what is around the templates of each site, where documents changed. Adds to `names` those of the
+    /// documents around which something else is. After that, each name that is missing is known to have no file.
     pub fn renew(
         &mut self,
         alloc: Global,
@@ -178,8 +177,8 @@ impl Sites {
         Ok(())
     }
 
-    // Of the names that are lacking there may be files, unless it was said that there is none. The answer is whether
-    // there are such names.
+    // Assumes a file of each lacking name, unless it is known that there is none. The answer is whether there is such a
+    // name.
     fn assume(&mut self, alloc: Global) -> Result<bool, AllocError>
         ensures said { IfOk result (λ some. some ≡ false → AreSaid self.new) }
         ensures same { IfOk result (λ some. some ≡ false → self.new.all.items ≡ self.old.all.items) }
@@ -197,7 +196,7 @@ impl Sites {
         Ok(some)
     }
 
-    /// The names of which it is to be asked whether there is a file.
+    /// The names whose files the caller has to look for.
     pub fn due(&self, alloc: Global) -> Result<Vec<UsedName>, AllocError>
         ensures { IfOk result (λ v. map used_view v.items ≡ due_of_sites self.now) }
     {
@@ -229,8 +228,8 @@ impl Sites {
         Ok(())
     }
 
-    /// Files may have come or gone: it is to be asked again of each name that templates use and none has, and of each that
-    /// may have a file. Of others nothing is known any more.
+    /// Files may have come or gone, so the caller has to look again for each name that templates use and none has, and
+    /// for each name that may have a file. The other names are forgotten.
     pub fn look_again(&mut self)
         ensures given { AreGiven self.old → AreGiven self.new }
         ensures sites { AreAround [] self.old self.new }
@@ -303,8 +302,8 @@ impl FolderSite {
         Ok(others)
     }
 
-    // There may be a file for each name that is lacking, unless it was said that there is none. The answer is whether
-    // there is such a name.
+    // Assumes a file of each lacking name, unless it is known that there is none. The answer is whether there is such a
+    // name.
     fn assume(&mut self, alloc: Global) -> Result<bool, AllocError>
         ensures said { IfOk result (λ some. some ≡ false → IsSaid self.new) }
         ensures none { IfOk result (λ some. some ≡ false → self.new ≡ self.old) }
@@ -320,7 +319,7 @@ impl FolderSite {
         )
     }
 
-    // Adds the names of which it is to be asked whether there is a file.
+    // Adds the names whose files the caller has to look for.
     fn push_due(&self, alloc: Global, due: &mut Vec<UsedName>) -> Result<(), AllocError>
         ensures { OnOk result (map used_view due.new.items ≡ map used_view due.old.items ++ due_in self.now) }
     {
@@ -353,7 +352,7 @@ impl FolderSite {
         Ok(())
     }
 
-    // Whether there is news, or will be after this is said of the name.
+    // Whether there is news, or will be once this is known of the name.
     fn is_news(&self, name: &str, is_there: bool) -> bool
         ensures { result ≡ false →
             (self.now.has_news ≡ false) × (specs.is_there_in (presence_in self.now name.now) ≡ is_there) }
@@ -367,8 +366,8 @@ impl FolderSite {
         }
     }
 
-    // It is to be asked again of each name that is lacking, and of each that may have a file. Of others, which no template
-    // uses any more or which a template has, nothing is known then.
+    // The caller has to look again for each lacking name, and for each that may have a file. The others, which no template
+    // uses any more or which a template has, are forgotten.
     fn look_again(&mut self)
         ensures due { (n : List ℕ) → presence_in self.new n ≡ specs.asked_again_in self.old n }
         ensures given { IsGiven self.old → IsGiven self.new }
@@ -383,7 +382,7 @@ impl FolderSite {
     }
 }
 
-// It is to be asked again of these names, as far as something is known of them.
+// The caller has to look again for these names, as far as something is known of them.
 fn ask_each(names: &[String], presences: &mut BTreeMap<String, Presence>)
     ensures { (n : List ℕ) → get_by_text presences.new n
         ≡ option_map (specs.asked_if (is_among n (map string_bytes names.now))) (get_by_text presences.old n) }
@@ -402,7 +401,7 @@ fn ask(presences: &mut BTreeMap<String, Presence>, name: &str)
     }
 }
 
-// Whether it was said that there is no file of the name.
+// Whether it is known that there is no file of the name.
 fn is_absent(presences: &BTreeMap<String, Presence>, name: &str) -> bool
     ensures { result ≡ specs.is_absent_in presences.now name.now }
 {
@@ -412,8 +411,8 @@ fn is_absent(presences: &BTreeMap<String, Presence>, name: &str) -> bool
     }
 }
 
-// There may be a file of each of these names, unless it was said that there is none. The answer is whether there may be
-// one of any of them. Then there is news, also after an allocation failure.
+// Assumes a file of each of these names, unless it is known that there is none. The answer is whether there may be one
+// of any of them. Then there is news, also after an allocation failure.
 fn assume_each(
     alloc: Global,
     names: &[String],

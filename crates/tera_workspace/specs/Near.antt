@@ -41,7 +41,8 @@ pub record IsOnlyOther (at : ℕ) (before now : List Said) : Type 0 where
   pub files : (k : ℕ) → option_map (λ x. x.file) (slice_get before k) ≡ option_map (λ x. x.file) (slice_get now k)
   pub rest : (k : ℕ) → (k ≡ at → ⊥) → slice_get before k ≡ slice_get now k
 
--- the same of the names that a page uses are other names before and now; those of all pages, or of all but one
+-- each name that a page uses is one of the other names now if it was one before, and only then; the same for all pages,
+-- and for all but one
 abbrev pub UsesSame : List (List ℕ) → List (List ℕ) → PageVal → Type 0
 UsesSame was others p = (n : List ℕ) → Contains (used_names p) n → is_one_of was n ≡ is_one_of others n
 
