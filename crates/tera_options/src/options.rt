@@ -91,15 +91,15 @@ const OF_EXPLAIN: &str = "\
 Examples:
   tera explain missing-argument
 
-Exit status: 0 if the rule was explained, 2 if there is none of this name.";
+Exit status: 0 if the rule was explained, 2 if no rule has this name.";
 
 const OF_SERVER: &str = "\
 An editor starts it and ends it. It reports findings while templates are edited, over all files below the open folders,
-and formats templates. With other markers only the first syntax error of a file is reported; --markers counts before
-the markers in a tera.toml.
+and formats templates. With other markers only the first syntax error of a file is reported. --markers takes precedence
+over the markers in a tera.toml.
 
-Exit status: 0 if the editor shut it down in order, 1 if it did not, 2 if the markers cannot be used, or if standard
-input or output failed.";
+Exit status: 0 after the request `shutdown`, 1 without it, 2 if the markers cannot be used, or if standard input or
+output failed.";
 
 /// The program, with its subcommands.
 pub fn command<'a>(alloc: Global) -> Result<Command<'a>, AllocError> {
