@@ -108,8 +108,8 @@ are_wanted [] = true
 are_wanted (kind ∷ kinds) = list_any is_correction (kind ∷ kinds)
 
 -- .. by the parameters of a request
-abbrev pub wants_corrections : Option Json → Bool
-wants_corrections params =
+abbrev pub asks_for_corrections : Option Json → Bool
+asks_for_corrections params =
     option_map_or are_wanted (array_in (member_of (codes "only") (member_of (codes "context") params))) true
 
 -- ---- all

@@ -11,7 +11,7 @@ ghost use Rattle.protocol_values.specs.Members.{seen};
 ghost use Rattle.tera_fixes.specs.Suggestions.{suggestion_view};
 ghost use Rattle.tera_workspace.specs.Definitions.{text_view};
 ghost use Rattle.text_edits.specs.Places.{AreLinesOf};
-ghost use Rattle.tera_answers.specs.Actions.{AreActions, AreActionsBy, AreWanted, acting_view, action_json, action_tokens, are_wanted, covers_corrections, is_asked, is_correction, part_tokens, wants_corrections};
+ghost use Rattle.tera_answers.specs.Actions.{AreActions, AreActionsBy, AreWanted, acting_view, action_json, action_tokens, are_wanted, asks_for_corrections, covers_corrections, is_asked, is_correction, part_tokens};
 ghost use Rattle.tera_answers.specs.Positions.{position_at};
 ghost use Rattle.tera_editor.specs.Settings.{reported_view};
 
@@ -47,8 +47,8 @@ struct Edited<'d> {
 }
 
 /// Whether the parameters of a request ask for corrections: they name no kinds, or one that covers these.
-pub fn wants_corrections(params: Option<&Value<'_>>) -> bool
-    ensures { result ≡ wants_corrections (seen params.entry) }
+pub fn asks_for_corrections(params: Option<&Value<'_>>) -> bool
+    ensures { result ≡ asks_for_corrections (seen params.entry) }
 {
     match items_of(member(member(params, "context"), "only")) {
         Some(kinds) => are_wanted(kinds),

@@ -23,7 +23,7 @@ use Rattle.text_edits.specs.Stored.{document_of, AreSame}
 use Rattle.text_edits.specs.declared.positions.Encoding.{Encoding}
 use Rattle.text_edits.specs.declared.positions.Position.{Position}
 use Rattle.tera_answers.specs.Abilities.{abilities_json}
-use Rattle.tera_answers.specs.Actions.{ActingVal, AreWanted, wants_corrections}
+use Rattle.tera_answers.specs.Actions.{ActingVal, AreWanted, asks_for_corrections}
 use Rattle.tera_editor.specs.Clients.{client_in}
 use Rattle.tera_answers.specs.Completions.{IsCompletion}
 use Rattle.tera_answers.specs.Definitions.{IsNamedAt, place_of, place_json}
@@ -213,7 +213,7 @@ Gives New asks.Initialize s params j t = (j ≡ abilities_json (client_in params
 Gives Running asks.Shutdown s params j t = (j ≡ null) × (t ≡ record s { phase = ShutDown })
 Gives Running (asks.OfText request) s params j t = IsResultOfDocument request (uri_given (document_in params)) s j × (t ≡ s)
 Gives Running (asks.AtPlace request) s params j t = IsOfCurrentTexts (IsResultAt request params) s j t
-Gives Running asks.Actions s params j t = IsOfCurrentTexts (AreOfRange (wants_corrections params) (range_given params) (uri_given (document_in params))) s j t
+Gives Running asks.Actions s params j t = IsOfCurrentTexts (AreOfRange (asks_for_corrections params) (range_given params) (uri_given (document_in params))) s j t
 Gives _ _ s params j t = ⊥
 
 -- why there is no result for a document: the editor does not have it open, or its text is not known

@@ -7,7 +7,7 @@ ghost use Rattle.json_rpc.specs.Writing.{body, answer};
 ghost use Rattle.json_rpc.specs.declared.code.Code.TheVariants.{InternalError};
 ghost use Rattle.protocol_values.specs.Members.{seen, member_of, text_in};
 ghost use Rattle.tera_answers.specs.Abilities.{abilities_json};
-ghost use Rattle.tera_answers.specs.Actions.{acting_view, wants_corrections};
+ghost use Rattle.tera_answers.specs.Actions.{acting_view, asks_for_corrections};
 ghost use Rattle.tera_outline.specs.Names.{name_view};
 ghost use Rattle.tera_editor.specs.Clients.{client_in};
 ghost use Rattle.tera_server.specs.Notes.{document_in, uri_given, AreNames};
@@ -24,7 +24,7 @@ use json_rpc::{Code, Id, begin_answer, end_message};
 use protocol_values::{is_set, items_of, member, position_of, range_of, text_of};
 use std::alloc::{AllocError, Global};
 use tera_answers::abilities::put_abilities;
-use tera_answers::actions::{Acting, put_if_wanted, wants_corrections};
+use tera_answers::actions::{Acting, asks_for_corrections, put_if_wanted};
 use tera_answers::completions::{Offering, put_completion};
 use tera_answers::definitions::{name_at, put_definition};
 use tera_answers::hovers::put_hover;
@@ -282,7 +282,7 @@ impl Server {
         params: Option<&Value<'_>>,
     ) -> Result<(), Code>
         ensures result { MatchResult result
-            (λ _. (j : Json) × AreOfRange (wants_corrections (seen params.entry)) (range_given (seen params.entry)) (uri_given (document_in (seen params.entry))) self.now j
+            (λ _. (j : Json) × AreOfRange (asks_for_corrections (seen params.entry)) (range_given (seen params.entry)) (uri_given (document_in (seen params.entry))) self.now j
             × (out.new.tokens ≡ out.old.tokens ++ json_tokens j))
             (λ code. (code ≡ InternalError)
             ⊎ RefusesPlace (range_given (seen params.entry)) (uri_given (document_in (seen params.entry))) self.now code) }
@@ -296,7 +296,7 @@ impl Server {
             file: name.as_str(),
             text,
         };
-        let wanted = wants_corrections(params);
+        let wanted = asks_for_corrections(params);
         Ok(put_if_wanted(alloc, out, wanted, self.acting(), document, range)?)
     }
 
